@@ -1,7 +1,8 @@
 -- Runs and trees of which no entry answers another's question, and rules that are then broken nowhere.
 use Rattle.std.proofs.Common.{◌≡◌, ◌≢◌, ℕ, zero, suc, ◌+◌, ◌<◌, ◌≤◌, inl, inr, ℤ, pos, ◌-ℤ◌, ◌<ℤ◌, ◌≤ℤ◌, Option, List}
-use Rattle.std.proofs.Common.{Some, None, Bool, true, false, IsTrue, Contains, length, get_or, refl, sym, ap, ◌∙◌}
-use Rattle.std.proofs.{Common.{subst, arith}, lemmas.{Bool.cases_lt, Int.{ints, clamps}, List.get_or_default}}
+use Rattle.std.proofs.Common.{Some, None, Bool, true, false, IsTrue, Result, IfOk, Contains, length, get_or, refl, sym}
+use Rattle.std.proofs.{Common.{ap, ◌∙◌, subst, arith}, lemmas.{Bool.cases_lt, Int.{ints, clamps}}}
+use Rattle.std.proofs.lemmas.{List.get_or_default, Result.IfOk-weaker}
 use Rattle.std.{proofs.lemmas.Option.slice_get-get_or, specs.{Prelude.slice_get, Int.int_max}}
 use Rattle.lam_geom.specs.declared.boxes.{MaskBox.MaskBox, MaskLayer.{MaskLayer, TheVariants.{ND, NP, NC, NI, NB}}}
 use Rattle.lam_geom.specs.{declared.boxes.Span.Span, Gaps.{EnclosesSpan, Overlaps, gap_of, gap_of_boxes}}
@@ -200,6 +201,15 @@ pub by_name : {rule own : Rule} → rule ≡ own → (Clear Kept : Rule → Type
     → (IsTrue r → Clear rule) → IsTrue r → Kept rule
 by_name {own = own} is Clear Kept r law h t = subst (λ (x : Rule). Clear x → Kept x) (sym is) law (h t)
 
+-- one that is kept where a tree is clear of another
+pub kept_where : {E : Type 0} (flat : FlatLayout) (r : Result Bool E) {rule own : Rule} → rule ≡ own
+    → (from to : List Entry)
+    → (AreClear (question_of flat.tech.now own 0) from to → IsKept flat.tech.now flat.boxes.now own)
+    → IfOk r (λ clear. IsTrue clear → AreClear (question_of flat.tech.now rule 0) from to)
+    → IfOk r (λ kept. IsTrue kept → IsKept flat.tech.now flat.boxes.now rule)
+kept_where flat r is from to law = IfOk-weaker r _ _ (λ clear.
+    by_name is (λ x. AreClear (question_of flat.tech.now x 0) from to) (IsKept flat.tech.now flat.boxes.now) clear law)
+
 pub proper_kept : (tech : Tech) (boxes : List MaskBox) → AreProper tech boxes → IsKept tech boxes ProperCrossing
 proper_kept tech boxes proper a b (lt, inl h) = h.improper (proper a b h.meeting)
 proper_kept tech boxes proper a b (lt, inr h) = h.improper (proper b a h.meeting)
@@ -265,8 +275,8 @@ module _ (flat : FlatLayout) (is : IsFlatLayout flat) where
       let k = pieces_found flat layer spacing a b is proper la (λ e. omega (arith, lt, e), h) in
       let o = (piece_row flat layer spacing entries k.i b pieces).1 k.near in
       let inside = piece_within flat a k.i is la (record { low = k.low; high = k.high }) in
-      let box : box_of flat.pieces.now.placed.items k.i ≡ a = is.pieces.ranges.of_box a k.i la k.low k.high in
-      let within : k.i < length flat.nets.now = omega (arith, nets_counted flat is, inside) in
+      let box : box_of flat.pieces.placed.items k.i ≡ a = is.pieces.ranges.of_box a k.i la k.low k.high in
+      let within : k.i < length flat.nets.items = omega (arith, nets_counted flat is, inside) in
       clear (piece_entry flat k.i) o.entry (pieces.complete k.i within (within, ap (layer_at boxes) box ∙ h.on_first))
       o.there o.holds
 
@@ -296,14 +306,8 @@ module _ (flat : FlatLayout) (is : IsFlatLayout flat) where
           near_by : ArePairOf a b h.on.p h.on.q
               → (gap_of_boxes (area_at boxes h.on.p) (area_at boxes h.on.q) <ℤ least)
               × (Overlaps (area_at boxes h.on.p) (area_at boxes h.on.q) → ⊥)
-          near_by (inl (e, f)) = subst (λ (m : ℕ). (gap_of_boxes (area_at boxes m) (area_at boxes h.on.q) <ℤ least)
-              × (Overlaps (area_at boxes m) (area_at boxes h.on.q) → ⊥)) e
-              (subst (λ (n : ℕ). (gap_of_boxes (area_at boxes a) (area_at boxes n) <ℤ least)
-              × (Overlaps (area_at boxes a) (area_at boxes n) → ⊥)) f (h.near, h.apart))
-          near_by (inr (e, f)) = subst (λ (m : ℕ). (gap_of_boxes (area_at boxes m) (area_at boxes h.on.q) <ℤ least)
-              × (Overlaps (area_at boxes m) (area_at boxes h.on.q) → ⊥)) f
-              (subst (λ (n : ℕ). (gap_of_boxes (area_at boxes b) (area_at boxes n) <ℤ least)
-              × (Overlaps (area_at boxes b) (area_at boxes n) → ⊥)) e (
-                turned (area_at boxes a) (area_at boxes b) least h.near,
-                λ over. h.apart (rw (gap_turned (area_at boxes a) (area_at boxes b)) over),
-              ))
+          near_by (inl (e, f)) = rw (← e, ← f) (h.near, h.apart)
+          near_by (inr (e, f)) = rw (← e, ← f) (
+            turned (area_at boxes a) (area_at boxes b) least h.near,
+            λ over. h.apart (rw (gap_turned (area_at boxes a) (area_at boxes b)) over),
+          )

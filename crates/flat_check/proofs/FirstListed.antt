@@ -1,7 +1,6 @@
 -- A list of first breaks is empty only where the rules are kept, and else begins with the first break.
-use Rattle.std.proofs.Common.{◌≡◌, ℕ, zero, suc, ◌≤◌, ◌⊎◌, inl, inr, Bool, List, [], ◌∷◌, Option, Contains, refl, sym}
+use Rattle.std.proofs.Common.{◌≡◌, ℕ, zero, suc, ◌≤◌, ◌⊎◌, inl, inr, Bool, List, [], ◌∷◌, Contains, refl}
 use Rattle.std.proofs.{Common.{ap, subst, arith}, lemmas.List.Elements.All-contains}
-use Rattle.std.specs.Prelude.{slice_get, MatchOption}
 use Rattle.lam_geom.specs.declared.boxes.MaskBox.{MaskBox}
 use Rattle.rule_table.specs.declared.technology.Tech.{Tech}
 use Rattle.rule_breaks.specs.{declared.rule.{Break.Break, Rule.Rule}, Breaks.{IsBreak, IsFirstBreak, IsNotAfter}}
@@ -64,12 +63,3 @@ module _ (tech : Tech) (boxes : List MaskBox) (most : ℕ) where
             (chained x y x
             (h.first y x (record { broken = record { rule = other; numbered = refl; broken = broken }; out = out })
             (zero, omega arith, refl)) before))
-
-  -- the first of a list, or that none is in it
-  pub first_or_kept : (xs : List Break) (m : Bool) (first : Option Break) → 1 ≤ most
-      → AreFirstBreaks tech boxes most xs m → first ≡ slice_get xs 0
-      → MatchOption first (KeepRules tech boxes) (IsFirstBreak tech boxes)
-  first_or_kept [] m first some h is = subst (λ (o : Option Break). MatchOption o (KeepRules tech boxes)
-      (IsFirstBreak tech boxes)) (sym is) (none_listed m some h)
-  first_or_kept (x ∷ xs) m first some h is = subst (λ (o : Option Break). MatchOption o (KeepRules tech boxes)
-      (IsFirstBreak tech boxes)) (sym is) (first_listed x xs m h)

@@ -16,4 +16,3 @@ pub mod Shapes
 pub mod Together
 pub mod Wholes
 pub mod NetTags
-pub mod SameTrees

@@ -12,7 +12,7 @@ use Rattle.list_facts.proofs.Some.{contains_map}
 -- each number of a piece has a net
 pub numbers_have_nets : (flat : FlatLayout) (layer : MaskLayer) (tree : UnvisitedTree) → IsFlatLayout flat
     → IsPieceTree flat.boxes.now (pieces_on flat) layer tree
-    → AreTagsWithin (length flat.nets.now) tree.parts.entries.items
+    → AreTagsWithin (length flat.nets.items) tree.parts.entries.items
 numbers_have_nets flat layer tree is h =
     let w = pieces_within flat.boxes.now (pieces_on flat) layer tree h in
     subst (λ (n : ℕ). AreTagsWithin n tree.parts.entries.items) (sym (nets_counted flat is)) w.tags
@@ -20,10 +20,10 @@ numbers_have_nets flat layer tree is h =
 -- under the nets the tree is that of the pieces of the layer
 pub pieces_netted : (flat : FlatLayout) (layer : MaskLayer) (tree : UnvisitedTree) (entries : List Entry)
     → IsFlatLayout flat → IsPieceTree flat.boxes.now (pieces_on flat) layer tree
-    → entries ≡ map (with_tag flat.nets.now) tree.parts.entries.items → ArePiecesOn flat layer entries
+    → entries ≡ map (with_tag flat.nets.items) tree.parts.entries.items → ArePiecesOn flat layer entries
 pieces_netted flat layer tree entries is h netted =
     let old = tree.parts.entries.items in
-    let f = with_tag flat.nets.now in
+    let f = with_tag flat.nets.items in
     let counted = nets_counted flat is in
     let Is : Entry → Type 0 = λ s. (i : ℕ) × IsPieceOn flat layer i × (s ≡ piece_entry flat i) in
     subst (ArePiecesOn flat layer) (sym netted) (record {

@@ -17,7 +17,7 @@ use Rattle.flat_check.{specs.Partners.{HasNearPiece, HaveNearPiece, WithOther}, 
 use Rattle.rule_breaks.{specs.Breaks.ArePiecesTooNear, proofs.Turned.gap_turned}
 
 abbrev pub pieces_on : FlatLayout → List Placed
-pieces_on flat = flat.pieces.now.placed.items
+pieces_on flat = flat.pieces.placed.items
 
 -- the number of a box's piece is one of a piece, and has a net
 pub piece_within : (flat : FlatLayout) (k i : ℕ) → IsFlatLayout flat → k < length flat.boxes.now → IsPieceOf flat k i
@@ -27,16 +27,16 @@ piece_within flat k i is lt of =
     let high = of.high in
     omega arith
 
-pub nets_counted : (flat : FlatLayout) → IsFlatLayout flat → length flat.nets.now ≡ length (pieces_on flat)
+pub nets_counted : (flat : FlatLayout) → IsFlatLayout flat → length flat.nets.items ≡ length (pieces_on flat)
 nets_counted flat is = is.nets.counted
-    ∙ pieces_counted flat.boxes.now flat.pieces.now.crossings.items (pieces_on flat) is.pieces.places
+    ∙ pieces_counted flat.boxes.now flat.pieces.crossings.items (pieces_on flat) is.pieces.places
 
 -- the area of a piece can be measured
 pub piece_placed : (flat : FlatLayout) (shown : List Placed) (i : ℕ) (d : Placed) → IsFlatLayout flat
     → shown ≡ pieces_on flat → i < length (pieces_on flat) → IsPlacedBox (get_or shown i d).area
 piece_placed flat shown i d is same lt =
     let piece : Placed = get_or (pieces_on flat) i d in
-    let h : IsPiece flat.boxes.now flat.pieces.now.crossings.items piece = is.pieces.each i d lt in
+    let h : IsPiece flat.boxes.now flat.pieces.crossings.items piece = is.pieces.each i d lt in
     let P : List Placed → Type 0 = λ ps. IsPlacedBox (get_or ps i d).area in
     subst P (sym same)
     (placed_inner (area_at flat.boxes.now piece.box_no) piece.area
@@ -49,7 +49,7 @@ pub record IsReadOf (flat : FlatLayout) (i : ℕ) (piece : Placed) : Type 0 wher
   pub of_box : piece.box_no < length flat.boxes.now
 
 pub piece_read : (flat : FlatLayout) (shown : List Placed) (i : ℕ) (piece : Placed) → IsFlatLayout flat
-    → shown ≡ pieces_on flat → i < length flat.nets.now → piece ≡ get_or shown i piece → IsReadOf flat i piece
+    → shown ≡ pieces_on flat → i < length flat.nets.items → piece ≡ get_or shown i piece → IsReadOf flat i piece
 piece_read flat shown i piece is same lt read =
     let among : i < length (pieces_on flat) = omega (arith, lt, nets_counted flat is) in
     let own : piece ≡ get_or (pieces_on flat) i piece = read ∙ ap (λ (ps : List Placed). get_or ps i piece) same in
@@ -70,7 +70,7 @@ pub pieces_near : (flat : FlatLayout) (layer : MaskLayer) (spacing : ℤ) (a i b
     → WithOther (ArePiecesTooNear flat.tech.now flat.boxes.now layer spacing) a b
 pieces_near flat layer spacing a i b is proper la on_a of h =
     let boxes : List MaskBox = flat.boxes.now in
-    let crossings : List Crossing = flat.pieces.now.crossings.items in
+    let crossings : List Crossing = flat.pieces.crossings.items in
     let pieces : List Placed = pieces_on flat in
     let j : ℕ = h.j in
     let on = h.on in
@@ -118,11 +118,11 @@ pub record IsPlacedAt (flat : FlatLayout) (k i : ℕ) (s : BoxXY) : Type 0 where
   pub covers : s ≡ area_of (pieces_on flat) i
 
 pub placed_at : (flat : FlatLayout) (k i : ℕ) (p : Place) (s : BoxXY) → IsFlatLayout flat
-    → slice_get (places_of flat.pieces.now.crossings.items flat.boxes.now) i ≡ Some p → p.box_no ≡ k
-    → IsAreaOf flat.boxes.now flat.pieces.now.crossings.items p s → IsPlacedAt flat k i s
+    → slice_get (places_of flat.pieces.crossings.items flat.boxes.now) i ≡ Some p → p.box_no ≡ k
+    → IsAreaOf flat.boxes.now flat.pieces.crossings.items p s → IsPlacedAt flat k i s
 placed_at flat k i p s is at of covers =
     let boxes : List MaskBox = flat.boxes.now in
-    let crossings : List Crossing = flat.pieces.now.crossings.items in
+    let crossings : List Crossing = flat.pieces.crossings.items in
     let pieces : List Placed = pieces_on flat in
     let n = pieces_counted boxes crossings pieces is.pieces.places in
     let w = slice_get_within (places_of crossings boxes) i p at in
@@ -145,12 +145,12 @@ placed_at flat k i p s is at of covers =
 pub pieces_found : (flat : FlatLayout) (layer : MaskLayer) (spacing : ℤ) (a b : ℕ) → IsFlatLayout flat
     → AreProper flat.tech.now flat.boxes.now → a < length flat.boxes.now
     → WithOther (ArePiecesTooNear flat.tech.now flat.boxes.now layer spacing) a b
-    → HaveNearPiece flat layer spacing (get_or flat.pieces.now.starts.items a 0)
-    (get_or flat.pieces.now.starts.items (a + 1) 0) b
+    → HaveNearPiece flat layer spacing (get_or flat.pieces.starts.items a 0)
+    (get_or flat.pieces.starts.items (a + 1) 0) b
 pieces_found flat layer spacing a b is proper la (ne, h) =
     let tech : Tech = flat.tech.now in
     let boxes : List MaskBox = flat.boxes.now in
-    let crossings : List Crossing = flat.pieces.now.crossings.items in
+    let crossings : List Crossing = flat.pieces.crossings.items in
     let pieces : List Placed = pieces_on flat in
     let same : h.crossings ≡ crossings =
     crossings_same tech boxes h.crossings crossings h.are_crossings (is.crossings proper) in
@@ -191,7 +191,7 @@ pub pieces_turned : (flat : FlatLayout) (layer : MaskLayer) (spacing : ℤ) (a b
 pieces_turned flat layer spacing a b is proper h =
     let tech : Tech = flat.tech.now in
     let boxes : List MaskBox = flat.boxes.now in
-    let crossings : List Crossing = flat.pieces.now.crossings.items in
+    let crossings : List Crossing = flat.pieces.crossings.items in
     let same : h.crossings ≡ crossings =
     crossings_same tech boxes h.crossings crossings h.are_crossings (is.crossings proper) in
     let C : List Crossing → Type 0 = λ cs. Reaches (IsLink tech boxes cs) h.j h.i

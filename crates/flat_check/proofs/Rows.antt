@@ -271,7 +271,7 @@ piece_row flat layer spacing entries i b are = (
   λ o. let s = All-contains (λ (x : Entry). (j : ℕ) × IsPieceOn flat layer j × (x ≡ piece_entry flat j)) entries
       o.entry are.sound o.there in
       let at = subst (Holds (beside (piece_entry flat i) (grains flat.tech.now spacing -ℤ pos 1))) s.2 o.holds in
-      let owner : box_of flat.pieces.now.placed.items s.0 ≡ b = sym (ap (λ (x : Entry). x.owner) s.2) ∙ o.owner in
+      let owner : box_of flat.pieces.placed.items s.0 ≡ b = sym (ap (λ (x : Entry). x.owner) s.2) ∙ o.owner in
       record {
         j = s.0;
         on = s.1;
@@ -315,14 +315,14 @@ module _ (flat : FlatLayout) (layer : MaskLayer) (spacing : ℤ) where
   -- all pieces of a box
   pub all_pieces : (starts : List ℕ) (a end : ℕ) (old new : List ℕ) → IsFlatLayout flat
       → AreProper flat.tech.now flat.boxes.now → a < length flat.boxes.now → layer_at flat.boxes.now a ≡ layer
-      → starts ≡ flat.pieces.now.starts.items
+      → starts ≡ flat.pieces.starts.items
       → get_or starts (a + 1) 0 ≤ end → end ≤ max (get_or starts a 0) (get_or starts (a + 1) 0)
       → AreGathered (HaveNearPiece flat layer spacing (get_or starts a 0) end) old new
       → AreGathered (WithOther (ArePiecesTooNear flat.tech.now flat.boxes.now layer spacing) a) old new
   all_pieces starts a end old new is proper la on same past last =
-      let first : get_or starts a 0 ≡ get_or flat.pieces.now.starts.items a 0 =
+      let first : get_or starts a 0 ≡ get_or flat.pieces.starts.items a 0 =
       ap (λ (ss : List ℕ). get_or ss a 0) same in
-      let after : get_or starts (a + 1) 0 ≡ get_or flat.pieces.now.starts.items (a + 1) 0 =
+      let after : get_or starts (a + 1) 0 ≡ get_or flat.pieces.starts.items (a + 1) 0 =
       ap (λ (ss : List ℕ). get_or ss (a + 1) 0) same in
       gathered_as (HaveNearPiece flat layer spacing (get_or starts a 0) end)
       (WithOther (ArePiecesTooNear flat.tech.now flat.boxes.now layer spacing) a) old new

@@ -90,34 +90,7 @@ module _ (tech : Tech) (boxes : List MaskBox) (rule : Rule) (a : ℕ) (found : L
   breaks_with : (b : ℕ) → Contains found b → a ≤ b → IsBreak tech boxes rule a b
   breaks_with b there le = second_box tech boxes rule a b le (partners.sound b there)
 
-  pub listed_none : (most : ℕ) (list : List Break) → length list ≤ most → ListBefore tech boxes (place rule a 0) list
-      → AreListedTo tech boxes rule a found most 0 list
-  listed_none most list few before =
-      record {
-        n = 0;
-        passed = λ k lt le. absurd (omega (arith, lt));
-        ahead = λ k low lt le. omega arith;
-        before = before;
-        few = few;
-      }
-
-  -- one that is less than the first box
-  pub listed_past : (most i : ℕ) (list : List Break) → get_or found i 0 < a
-      → AreListedTo tech boxes rule a found most i list → AreListedTo tech boxes rule a found most (i + 1) list
-  listed_past most i list less h = record {
-    n = h.n;
-    passed = λ k lt le. elim (cases_lt k i) [
-      | inl before ↦ h.passed k before le
-      | inr after ↦ let at : k ≡ i =
-          omega (arith, lt, after) in absurd
-          (let here = subst (λ (n : ℕ). a ≤ get_or found n 0) at le in omega (arith, here, less))
-    ];
-    ahead = λ k low lt le. h.ahead k (omega (arith, low)) lt le;
-    before = h.before;
-    few = h.few;
-  }
-
-  -- the next one that is not
+  -- the next one that is no less than the first box
   pub come_to : (most i : ℕ) (list : List Break) → i < length found → a ≤ get_or found i 0
       → AreListedTo tech boxes rule a found most i list → ListBefore tech boxes (place rule a (get_or found i 0)) list
   come_to most i list lt le h =

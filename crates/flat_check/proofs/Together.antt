@@ -1,5 +1,5 @@
 -- With which boxes a box breaks a rule, by how they stand to one another.
-use Rattle.std.proofs.Common.{◌≡◌, ◌≢◌, ◌↔◌, ℕ, ◌⊎◌, inl, inr, ℤ, Bool, true, false, IsTrue, List, Result, Ok, Err}
+use Rattle.std.proofs.Common.{◌≡◌, ◌≢◌, ◌↔◌, ℕ, ◌<◌, ◌⊎◌, inl, inr, ℤ, Bool, true, false, IsTrue, List, Result, Ok, Err}
 use Rattle.std.proofs.{Common.{OnOk, sym, ap, ◌∙◌, subst, arith}, lemmas.Bool.cases_lt}
 use Rattle.lam_geom.specs.declared.boxes.{MaskBox.MaskBox, MaskLayer.{MaskLayer, TheVariants.{ND, NP, NC, NI, NB}}}
 use Rattle.rule_table.specs.{declared.technology.Tech.Tech, Technology.{has_buried_of, numbers_of}}
@@ -66,19 +66,17 @@ two_found r flat a {own = own} is P Q old middle new same =
 
 -- ---- how two boxes stand to one another
 
+apart_cases : (a b : ℕ) → a ≢ b → (a < b) ⊎ (b < a)
+apart_cases a b ne = elim (cases_lt a b) [
+  | inl less ↦ inl less
+  | inr more ↦ elim (cases_lt b a) [ inl under ↦ inr under | inr over ↦ absurd (ne (omega (arith, more, over))) ]
+]
+
 -- where one of two boxes stands to the other as the other to it
 pub two_together : (AreBad : ℕ → ℕ → Type 0) → ((a b : ℕ) → AreBad a b → AreBad b a) → (a b : ℕ)
     → WithOther AreBad a b ↔ (AtTwo AreBad a b ⊎ AtTwo AreBad b a)
 two_together AreBad turn a b = (
-  λ (ne, bad). elim (cases_lt a b) [
-    | inl less ↦ inl (less, bad)
-    | inr more ↦
-        elim (cases_lt b a) [
-          | inl under ↦ inr (under, turn a b bad)
-          | inr over ↦
-              absurd (ne (omega (arith, more, over)))
-        ]
-  ],
+  λ (ne, bad). elim (apart_cases a b ne) [ inl less ↦ inl (less, bad) | inr under ↦ inr (under, turn a b bad) ],
   λ h. elim h [ inl k ↦ (λ e. omega (arith, k.0, e), k.1) | inr k ↦ (λ e. omega (arith, k.0, e), turn b a k.1) ],
 )
 
@@ -87,24 +85,8 @@ pub either_together : (IsBadTo : ℕ → ℕ → Type 0) (a b : ℕ)
     → (WithOther IsBadTo a b ⊎ WithOther (λ d k. IsBadTo k d) a b) ↔ (AtEither IsBadTo a b ⊎ AtEither IsBadTo b a)
 either_together IsBadTo a b = (
   λ h. elim h [
-    | inl k ↦ elim (cases_lt a b) [
-      | inl less ↦ inl (less, inl k.1)
-      | inr more ↦
-          elim (cases_lt b a) [
-            | inl under ↦ inr (under, inr k.1)
-            | inr over ↦
-                absurd (k.0 (omega (arith, more, over)))
-          ]
-    ]
-    | inr k ↦ elim (cases_lt a b) [
-      | inl less ↦ inl (less, inr k.1)
-      | inr more ↦
-          elim (cases_lt b a) [
-            | inl under ↦ inr (under, inl k.1)
-            | inr over ↦
-                absurd (k.0 (omega (arith, more, over)))
-          ]
-    ]
+    | inl k ↦ elim (apart_cases a b k.0) [ inl less ↦ inl (less, inl k.1) | inr under ↦ inr (under, inr k.1) ]
+    | inr k ↦ elim (apart_cases a b k.0) [ inl less ↦ inl (less, inr k.1) | inr under ↦ inr (under, inl k.1) ]
   ],
   λ h. elim h [
     | inl k ↦

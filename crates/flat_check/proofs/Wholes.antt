@@ -62,7 +62,7 @@ pub whole_listed : (flat : FlatLayout) (layer : MaskLayer) (entries : List Entry
     → IsUncut layer → ArePiecesOn flat layer entries → IsOn flat.boxes.now layer k
     → (tag : ℕ) × Contains entries (record { area = area_at flat.boxes.now k; owner = k; tag = tag })
 whole_listed flat layer entries k is uncut are on =
-    let boxes = flat.boxes.now in let crossings = flat.pieces.now.crossings.items in let pieces = pieces_on flat in
+    let boxes = flat.boxes.now in let crossings = flat.pieces.crossings.items in let pieces = pieces_on flat in
     let found = whole_there boxes crossings layer k uncut on in
     let i : ℕ = found.0 in
     let at : slice_get (places_of crossings boxes) i ≡ Some (place k Whole) =
@@ -74,7 +74,7 @@ whole_listed flat layer entries k is uncut are on =
     let there : Contains entries (piece_entry flat i) =
     are.complete i (omega (arith, counted, within))
     (omega (arith, counted, within), ap (layer_at boxes) box ∙ on.on) in
-    let tag = slice_index flat.nets.now i in (
+    let tag = slice_index flat.nets.items i in (
       tag,
       subst (λ (n : ℕ). Contains entries (record { area = area_at boxes k; owner = n; tag = tag })) box
           (subst (λ (a : BoxXY). Contains entries (record { area = a; owner = box_of pieces i; tag = tag }))
@@ -106,7 +106,7 @@ pub whole_entry : (flat : FlatLayout) (layer : MaskLayer) (entries : List Entry)
     → IsUncut layer → ArePiecesOn flat layer entries → Contains entries s
     → IsOn flat.boxes.now layer s.owner × (s.area ≡ area_at flat.boxes.now s.owner)
 whole_entry flat layer entries s is uncut are there =
-    let boxes = flat.boxes.now in let crossings = flat.pieces.now.crossings.items in let pieces = pieces_on flat in
+    let boxes = flat.boxes.now in let crossings = flat.pieces.crossings.items in let pieces = pieces_on flat in
     let found = All-contains (λ (x : Entry). (i : ℕ) × IsPieceOn flat layer i × (x ≡ piece_entry flat i)) entries s
     are.sound there in
     let i : ℕ = found.0 in
@@ -142,7 +142,7 @@ covered_by_whole flat layer area margin entries b h is uncut are = (
       let on : IsPieceOn flat layer i = there.1 in
       let counted = nets_counted flat is in
       let low = on.0 in
-      let piece : IsPiece boxes flat.pieces.now.crossings.items (piece_at pieces i) =
+      let piece : IsPiece boxes flat.pieces.crossings.items (piece_at pieces i) =
       is.pieces.each i no_piece (omega (arith, counted, low)) in
       let covers : Encloses (area_of pieces i) area margin =
       subst (λ (s : Entry). Encloses s.area area margin) there.2 held.holds in

@@ -5,7 +5,7 @@ use Rattle.rule_table.specs.declared.technology.Tech.{Tech}
 use Rattle.crossing_model.specs.{declared.crossing.Crossing.Crossing, Boxes.AreSearchable, Crossings.AreProper}
 use Rattle.crossing_model.specs.Crossings.{AreCrossings, AreInOrder}
 use Rattle.crossings.specs.Entries.{AreTreesOf}
-use Rattle.box_pieces.specs.{declared.placing.Pieces.Pieces, Pieces.ArePiecesOf}
+use Rattle.box_pieces.specs.{Pieces.ArePiecesOf}
 use Rattle.net_model.specs.Extraction.{AreNets}
 use Rattle.rule_breaks.specs.declared.rule.Rule.{Rule, TheVariants.{MetalSpacing, PolySpacing, DiffusionSpacing}}
 use Rattle.rule_breaks.specs.Breaks.{IsChannel}
@@ -28,15 +28,13 @@ pub record AreCrossed (tech : Tech) (boxes : List MaskBox) (crossed : Crossed) :
 
 -- The boxes can be searched, and the channels, the pieces and their nets are those of the boxes. Where poly and
 -- diffusion do not cross properly all boxes are pieces as a whole.
-pub record AreKnown (tech : Tech) (boxes : List MaskBox) (own : Pieces) (numbers : List ℕ) : Type 0 where
-  pub searchable : AreSearchable boxes
-  pub channels : HaveChannels tech boxes own.crossings.items
-  pub crossings : AreProper tech boxes → AreCrossings tech boxes own.crossings.items
-  pub pieces : ArePiecesOf boxes own
-  pub nets : AreNets tech boxes own.crossings.items numbers
-
-abbrev pub IsFlatLayout : FlatLayout → Type 0
-IsFlatLayout flat = AreKnown flat.tech.now flat.boxes.now flat.pieces.now flat.nets.now
+pub record IsFlatLayout (flat : FlatLayout) : Type 0 where
+  pub searchable : AreSearchable flat.boxes.now
+  pub channels : HaveChannels flat.tech.now flat.boxes.now flat.pieces.crossings.items
+  pub crossings : AreProper flat.tech.now flat.boxes.now
+      → AreCrossings flat.tech.now flat.boxes.now flat.pieces.crossings.items
+  pub pieces : ArePiecesOf flat.boxes.now flat.pieces
+  pub nets : AreNets flat.tech.now flat.boxes.now flat.pieces.crossings.items flat.nets.items
 
 -- a rule that looks at nets: what shapes rules 1 to 5 ask of all boxes is known to hold there
 abbrev pub IsOnNets : Rule → Type 0

@@ -67,21 +67,21 @@ IsBesideChannel tech boxes question entries a b =
 
 -- piece number i is of box number k
 pub record IsPieceOf (flat : FlatLayout) (k i : ℕ) : Type 0 where
-  pub low : slice_index flat.pieces.now.starts.items k ≤ i
-  pub high : i < slice_index flat.pieces.now.starts.items (k + 1)
+  pub low : slice_index flat.pieces.starts.items k ≤ i
+  pub high : i < slice_index flat.pieces.starts.items (k + 1)
 
 -- pieces number i and j lie nearer to one another than so many u, and are of different nets
 pub record AreNearPieces (flat : FlatLayout) (spacing : ℤ) (i j : ℕ) : Type 0 where
-  pub near : gap_of_boxes (area_of flat.pieces.now.placed.items i) (area_of flat.pieces.now.placed.items j) <ℤ grains
+  pub near : gap_of_boxes (area_of flat.pieces.placed.items i) (area_of flat.pieces.placed.items j) <ℤ grains
       flat.tech.now spacing
-  pub apart : slice_index flat.nets.now i ≢ slice_index flat.nets.now j
+  pub apart : slice_index flat.nets.items i ≢ slice_index flat.nets.items j
 
 -- so does piece number i with one of another box b, on a layer
 pub record HasNearPiece (flat : FlatLayout) (layer : MaskLayer) (spacing : ℤ) (i b : ℕ) : Type 0 where
   pub j : ℕ
   pub on : IsPieceOn flat layer j
-  pub of_box : box_of flat.pieces.now.placed.items j ≡ b
-  pub other : b ≢ box_of flat.pieces.now.placed.items i
+  pub of_box : box_of flat.pieces.placed.items j ≡ b
+  pub other : b ≢ box_of flat.pieces.placed.items i
   pub near : AreNearPieces flat spacing i j
 
 -- so does one of the pieces from one number up to before another

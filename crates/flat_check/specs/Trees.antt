@@ -7,7 +7,7 @@ use Rattle.box_tree.specs.declared.entries.Entry.{Entry}
 use Rattle.crossing_model.specs.{Boxes.layer_at, Crossings.{AreProper, IsBadPair}}
 use Rattle.crossings.specs.Entries.{AreBoxesOn, AreEntriesBelow}
 use Rattle.crossings.specs.Entries as crossing
-use Rattle.box_pieces.specs.{declared.placing.Pieces.Pieces, Pieces.{area_of, box_of}}
+use Rattle.box_pieces.specs.Pieces.{area_of, box_of}
 use Rattle.flat_check.specs.declared.{flat_layout.FlatLayout.FlatLayout, trees.Trees.Trees}
 use Rattle.rule_breaks.specs.Breaks.{IsChannel}
 
@@ -17,9 +17,9 @@ use Rattle.rule_breaks.specs.Breaks.{IsChannel}
 abbrev pub piece_entry : FlatLayout → ℕ → Entry
 piece_entry flat i =
     record {
-      area = area_of flat.pieces.now.placed.items i;
-      owner = box_of flat.pieces.now.placed.items i;
-      tag = slice_index flat.nets.now i;
+      area = area_of flat.pieces.placed.items i;
+      owner = box_of flat.pieces.placed.items i;
+      tag = slice_index flat.nets.items i;
     }
 
 -- a channel, which goes by its diffusion
@@ -30,12 +30,12 @@ channel_entry channel d = record { area = channel; owner = d; tag = 0 }
 
 -- there is a piece with this number, of a box on a layer
 abbrev pub IsPieceOn : FlatLayout → MaskLayer → ℕ → Type 0
-IsPieceOn flat layer i = (i < length flat.nets.now)
-    × (layer_at flat.boxes.now (box_of flat.pieces.now.placed.items i) ≡ layer)
+IsPieceOn flat layer i = (i < length flat.nets.items)
+    × (layer_at flat.boxes.now (box_of flat.pieces.placed.items i) ≡ layer)
 
 -- the pieces of a layer
 abbrev pub ArePiecesOn : FlatLayout → MaskLayer → List Entry → Type 0
-ArePiecesOn flat layer entries = AreEntriesBelow (IsPieceOn flat layer) (piece_entry flat) (length flat.nets.now)
+ArePiecesOn flat layer entries = AreEntriesBelow (IsPieceOn flat layer) (piece_entry flat) (length flat.nets.items)
     entries
 
 -- all channels
@@ -67,16 +67,3 @@ pub record AreRuleTreesOf (flat : FlatLayout) (trees : Trees) : Type 0 where
   pub pieces : ArePiecesOn flat ND trees.pieces
   pub cuts : AreBoxesOn flat.boxes.now NC trees.cuts
   pub channels : AreChannels flat.tech.now flat.boxes.now trees.channels
-
--- a flat layout with these boxes, pieces and nets
-pub record IsFlatLayoutWith (tech : Tech) (boxes : List MaskBox) (pieces : Pieces) (nets : List ℕ)
-    (flat : FlatLayout) : Type 0 where
-  pub tech_is : flat.tech.now ≡ tech
-  pub boxes_are : flat.boxes.now ≡ boxes
-  pub pieces_are : flat.pieces.now ≡ pieces
-  pub nets_are : flat.nets.now ≡ nets
-
--- the trees of each flat layout with these
-abbrev pub AreTreesWith : Tech → List MaskBox → Pieces → List ℕ → Trees → Type 0
-AreTreesWith tech boxes pieces nets trees = (flat : FlatLayout) → IsFlatLayoutWith tech boxes pieces nets flat
-    → AreRuleTreesOf flat trees

@@ -242,7 +242,7 @@ fn add_near_pieces(
 ) -> Result<(), AllocError>
     requires flat { IsFlatLayout flat.now }
     requires pieces { ArePiecesOn flat.now layer tree.now }
-    requires among { i < length flat.now.nets.now }
+    requires among { i < length flat.now.nets.items }
     ensures { OnOk result
         (AreGathered (HasNearPiece flat.now layer (spacing_of_rule flat.now.tech.now rule) i) found.old.items
         found.new.items) }

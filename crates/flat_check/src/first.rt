@@ -34,13 +34,7 @@ pub fn first_break<H: Threads + Sync, G: Gate>(
         MatchOption first (KeepRules tech.now boxes.now) (IsFirstBreak tech.now boxes.now)) }
 {
     let known = known_trees(rt, alloc, tech, boxes, shares)?;
-    let flat = FlatLayout {
-        tech,
-        boxes,
-        pieces: &known.pieces,
-        nets: known.nets.as_slice(),
-    };
-    first_by_trees(rt, alloc, gate, &flat, &known.trees, shares)
+    first_by_trees(rt, alloc, gate, &known.flat, &known.trees, shares)
 }
 
 // The first break of all rules, by trees, in so many shares.

@@ -31,13 +31,7 @@ pub fn breaks<H: Threads + Sync>(
     ensures { IfOk result (λ found. AreFirstBreaks tech.now boxes.now most found.list found.more) }
 {
     let known = known_trees(rt, alloc, tech, boxes, 1)?;
-    let flat = FlatLayout {
-        tech,
-        boxes,
-        pieces: &known.pieces,
-        nets: known.nets.as_slice(),
-    };
-    list_all(rt, alloc, &flat, &known.trees, most)
+    list_all(rt, alloc, &known.flat, &known.trees, most)
 }
 
 // The first breaks of all rules, by trees.

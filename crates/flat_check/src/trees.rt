@@ -5,15 +5,14 @@ ghost use Rattle.box_tree.specs.{Retagged.with_tag, UnvisitedTrees.{AreTagsWithi
 ghost use Rattle.crossing_model.specs.Boxes.{AreSearchable};
 ghost use Rattle.crossings.specs.Entries as crossing;
 ghost use Rattle.net_extract.specs.CutLists.{ShowPieces};
-ghost use Rattle.flat_check.specs.{FlatLayouts.{AreKnown, IsFlatLayout}, Trees.{AreChannels, ArePerhapsProper}};
-ghost use Rattle.flat_check.specs.Trees.{AreRuleTreesOf, ArePiecesOn, AreTreesWith, piece_entry};
+ghost use Rattle.flat_check.specs.{FlatLayouts.IsFlatLayout, Trees.{AreChannels, ArePerhapsProper}};
+ghost use Rattle.flat_check.specs.Trees.{AreRuleTreesOf, ArePiecesOn, piece_entry};
 
-use crate::flat_layout::{Findings, FlatLayout, known};
-use box_pieces::Pieces;
+use crate::flat_layout::{Crossed, FlatLayout, metal_and_crossed};
 use box_tree::{BoxTree, Entry, UnvisitedTree};
 use crossings::Trees as CrossingTrees;
 use lam_geom::MaskBox;
-use net_extract::PieceTrees;
+use net_extract::{PieceTrees, nets_of};
 use rule_table::Tech;
 use std::alloc::{AllocError, Global};
 use std::thread::Threads;
@@ -33,48 +32,46 @@ pub struct Trees {
     pub channels: BoxTree,
 }
 
-/// The pieces of boxes, the net of each, and the trees for all rules.
+/// Boxes with what is known of them, and the trees for all rules.
 #[derive(Drop)]
-pub struct Known {
-    pub pieces: Pieces,
-    pub nets: Vec<u32>,
+pub struct Known<'a> {
+    pub flat: FlatLayout<'a>,
     pub trees: Trees,
 }
 
 /// What is known of boxes before the rules are asked, found in so many shares. The only refusal is want of memory.
-pub fn known_trees<H: Threads + Sync>(
+pub fn known_trees<'a, H: Threads + Sync>(
     rt: &H,
     alloc: Global,
-    tech: &Tech,
-    boxes: &[MaskBox],
+    tech: &'a Tech,
+    boxes: &'a [MaskBox],
     shares: u32,
-) -> Result<Known, AllocError>
+) -> Result<Known<'a>, AllocError>
     requires searchable { AreSearchable boxes.now }
     requires shares { (1 ≤ shares) × (shares ≤ 64) }
-    ensures flat { IfOk result (λ known. AreKnown tech.now boxes.now known.pieces known.nets.items) }
-    ensures trees { IfOk result (λ known.
-        AreTreesWith tech.now boxes.now known.pieces known.nets.items known.trees) }
+    ensures tech { IfOk result (λ known. known.flat.tech.now ≡ tech.now) }
+    ensures boxes { IfOk result (λ known. known.flat.boxes.now ≡ boxes.now) }
+    ensures flat { IfOk result (λ known. IsFlatLayout known.flat) }
+    ensures trees { IfOk result (λ known. AreRuleTreesOf known.flat known.trees) }
 {
-    let Findings {
-        pieces,
-        nets,
-        layers,
-        cuts,
+    let (metal, crossed) = metal_and_crossed(rt, alloc, tech, boxes, shares);
+    let Crossed {
         trees,
+        pieces,
         proper,
-    } = known(rt, alloc, tech, boxes, shares)?;
+    } = crossed?;
+    let windows = &trees.windows;
+    let (nets, _, layers, cuts) = nets_of(
+        rt, alloc, tech, boxes, windows, metal?, &pieces, shares,
+    )?;
     let flat = FlatLayout {
         tech,
         boxes,
-        pieces: &pieces,
-        nets: nets.as_slice(),
-    };
-    let trees = trees_of(alloc, &flat, trees, layers, cuts, proper)?;
-    Ok(Known {
         pieces,
         nets,
-        trees,
-    })
+    };
+    let trees = trees_of(alloc, &flat, trees, layers, cuts, proper)?;
+    Ok(Known { flat, trees })
 }
 
 /// The trees for all rules: those by which crossings and nets were found, the latter with the nets in place of the
@@ -89,7 +86,7 @@ pub fn trees_of(
 ) -> Result<Trees, AllocError>
     requires flat { IsFlatLayout flat.now }
     requires boxes { crossing.AreTreesOf flat.now.boxes.now boxes }
-    requires layers { ShowPieces flat.now.boxes.now flat.now.pieces.now.placed.items layers }
+    requires layers { ShowPieces flat.now.boxes.now flat.now.pieces.placed.items layers }
     requires cuts { crossing.AreBoxesOn flat.now.boxes.now NC cuts }
     requires proper { ArePerhapsProper flat.now.tech.now flat.now.boxes.now proper }
     ensures { IfOk result (AreRuleTreesOf flat.now) }
@@ -114,7 +111,7 @@ fn net_trees(
     layers: PieceTrees,
 ) -> Result<(BoxTree, BoxTree, BoxTree), AllocError>
     requires flat { IsFlatLayout flat.now }
-    requires layers { ShowPieces flat.now.boxes.now flat.now.pieces.now.placed.items layers }
+    requires layers { ShowPieces flat.now.boxes.now flat.now.pieces.placed.items layers }
     ensures metal { IfOk result (λ trees. ArePiecesOn flat.now NM trees.0) }
     ensures poly { IfOk result (λ trees. ArePiecesOn flat.now NP trees.1) }
     ensures pieces { IfOk result (λ trees. ArePiecesOn flat.now ND trees.2) }
@@ -133,16 +130,16 @@ fn net_trees(
 // One of them.
 fn with_nets(alloc: Global, flat: &FlatLayout, tree: UnvisitedTree) -> Result<BoxTree, AllocError>
     requires parts { AreTreeParts tree.parts }
-    requires tags { AreTagsWithin (length flat.now.nets.now) tree.parts.entries.items }
-    ensures { IfOk result (λ entries. entries ≡ map (with_tag flat.now.nets.now) tree.parts.entries.items) }
+    requires tags { AreTagsWithin (length flat.now.nets.items) tree.parts.entries.items }
+    ensures { IfOk result (λ entries. entries ≡ map (with_tag flat.now.nets.items) tree.parts.entries.items) }
 {
-    BoxTree::with_tags(alloc, tree.parts, flat.nets)
+    BoxTree::with_tags(alloc, tree.parts, &flat.nets)
 }
 
 /// A piece by its number, with those of its box and its net.
 pub fn entry_of_piece(flat: &FlatLayout, number: u32) -> Entry
     requires flat { IsFlatLayout flat.now }
-    requires among { number < length flat.now.nets.now }
+    requires among { number < length flat.now.nets.items }
     ensures value { result ≡ piece_entry flat.now number }
     ensures placed { IsPlacedBox result.area }
     ensures of_box { result.owner < length flat.now.boxes.now }

@@ -1,13 +1,4 @@
-use Rattle.std.proofs.Common.{List, ℕ, refl, sym, subst}
-use Rattle.flat_check.specs.FlatLayouts.{AreKnown}
 use Rattle.flat_check.proofs.first.first_break.Goals as goal
 
-pub first_by_trees-requires-clause-flat : goal.first_by_trees-requires-clause-flat
-first_by_trees-requires-clause-flat g c = λ κs le.
-    let Known : List ℕ → Type 0 = AreKnown c.args.tech.now c.args.boxes.now c.in_ok-known.known.pieces in
-    subst Known (sym c.as_slice.ensures.value) c.in_ok-known.ensures.flat
-
-pub first_by_trees-requires-clause-trees : goal.first_by_trees-requires-clause-trees
-first_by_trees-requires-clause-trees g c = λ κs le.
-    c.in_ok-known.ensures.trees _
-    (record { tech_is = refl; boxes_are = refl; pieces_are = refl; nets_are = c.as_slice.ensures.value })
+pub returns : goal.returns
+returns g c = rw (c.in_ok-known.ensures.tech, c.in_ok-known.ensures.boxes) at c.first_by_trees.ensures

@@ -1,6 +1,6 @@
 use Rattle.lam_geom.specs.declared.boxes.MaskLayer.TheVariants.{ND, NM, NP}
 use Rattle.crossing_model.specs.Crossings.{AreProper}
-use Rattle.flat_check.{specs.{Clear.AreClear, Partners.question_of}, proofs.Clear.{by_name, cuts_kept, cuts_off}}
+use Rattle.flat_check.{proofs.Clear.{by_name, cuts_kept, cuts_off, kept_where}}
 use Rattle.flat_check.proofs.Clear.{implants_off, nets_kept, poly_apart, proper_kept, proper_where, windows_off}
 use Rattle.rule_breaks.specs.Order.{IsKept}
 use Rattle.std.proofs.lemmas.Result.{IfOk-weaker}
@@ -16,11 +16,8 @@ returns-in-ProperCrossing g c =
 pub returns-in-PolyToDiffusion : goal.returns-in-PolyToDiffusion
 returns-in-PolyToDiffusion g c =
     let flat = c.args.flat.now in let trees = c.args.trees.now in let are = c.requires.trees in
-    IfOk-weaker c.is_clear.result _ _ (λ kept clear.
-    by_name c.in-PolyToDiffusion.is (λ r. AreClear (question_of flat.tech.now r 0) trees.poly trees.boxes.diffusion)
-    (IsKept flat.tech.now flat.boxes.now) kept
-    (poly_apart flat c.requires.flat trees.poly trees.boxes.diffusion are.poly are.boxes.diffusion)
-    clear) c.is_clear.ensures
+    kept_where flat c.is_clear.result c.in-PolyToDiffusion.is trees.poly trees.boxes.diffusion
+    (poly_apart flat c.requires.flat trees.poly trees.boxes.diffusion are.poly are.boxes.diffusion) c.is_clear.ensures
 
 pub returns-in-MetalSpacing : goal.returns-in-MetalSpacing
 returns-in-MetalSpacing g c =
@@ -42,36 +39,27 @@ returns-in-DiffusionSpacing g c =
 
 pub returns-in-CutSpacing : goal.returns-in-CutSpacing
 returns-in-CutSpacing g c =
-    let flat = c.args.flat.now in let trees = c.args.trees.now in let are = c.requires.trees in
-    IfOk-weaker c.is_clear-in-CutSpacing.result _ _ (λ kept clear.
-    by_name c.in-CutSpacing.is (λ r. AreClear (question_of flat.tech.now r 0) trees.cuts trees.cuts)
-    (IsKept flat.tech.now flat.boxes.now) kept
-    (cuts_kept flat.tech.now flat.boxes.now trees.cuts are.cuts) clear) c.is_clear-in-CutSpacing.ensures
+    let flat = c.args.flat.now in let cuts = c.args.trees.now.cuts in let call = c.is_clear-in-CutSpacing in
+    kept_where flat call.result c.in-CutSpacing.is cuts cuts
+    (cuts_kept flat.tech.now flat.boxes.now cuts c.requires.trees.cuts) call.ensures
 
 pub returns-in-CutToChannel : goal.returns-in-CutToChannel
 returns-in-CutToChannel g c =
     let flat = c.args.flat.now in let trees = c.args.trees.now in let are = c.requires.trees in
-    IfOk-weaker c.is_clear-in-CutToChannel.result _ _ (λ kept clear.
-    by_name c.in-CutToChannel.is (λ r. AreClear (question_of flat.tech.now r 0) trees.cuts trees.channels)
-    (IsKept flat.tech.now flat.boxes.now) kept
-    (cuts_off flat.tech.now flat.boxes.now trees.channels are.channels trees.cuts are.cuts)
-    clear) c.is_clear-in-CutToChannel.ensures
+    let call = c.is_clear-in-CutToChannel in
+    kept_where flat call.result c.in-CutToChannel.is trees.cuts trees.channels
+    (cuts_off flat.tech.now flat.boxes.now trees.channels are.channels trees.cuts are.cuts) call.ensures
 
 pub returns-in-ImplantToChannel : goal.returns-in-ImplantToChannel
 returns-in-ImplantToChannel g c =
     let flat = c.args.flat.now in let trees = c.args.trees.now in let are = c.requires.trees in
-    IfOk-weaker c.is_clear-in-ImplantToChannel.result _ _ (λ kept clear.
-    by_name c.in-ImplantToChannel.is
-    (λ r. AreClear (question_of flat.tech.now r 0) trees.boxes.implants trees.channels)
-    (IsKept flat.tech.now flat.boxes.now) kept
-    (implants_off flat.tech.now flat.boxes.now trees.channels are.channels trees.boxes.implants are.boxes.implants)
-    clear) c.is_clear-in-ImplantToChannel.ensures
+    let call = c.is_clear-in-ImplantToChannel in let implants = trees.boxes.implants in
+    kept_where flat call.result c.in-ImplantToChannel.is implants trees.channels
+    (implants_off flat.tech.now flat.boxes.now trees.channels are.channels implants are.boxes.implants) call.ensures
 
 pub returns-in-WindowToChannel : goal.returns-in-WindowToChannel
 returns-in-WindowToChannel g c =
     let flat = c.args.flat.now in let trees = c.args.trees.now in let are = c.requires.trees in
-    IfOk-weaker c.is_clear-in-WindowToChannel.result _ _ (λ kept clear.
-    by_name c.in-WindowToChannel.is (λ r. AreClear (question_of flat.tech.now r 0) trees.boxes.windows trees.channels)
-    (IsKept flat.tech.now flat.boxes.now) kept
-    (windows_off flat.tech.now flat.boxes.now trees.channels are.channels trees.boxes.windows are.boxes.windows)
-    clear) c.is_clear-in-WindowToChannel.ensures
+    let call = c.is_clear-in-WindowToChannel in let windows = trees.boxes.windows in
+    kept_where flat call.result c.in-WindowToChannel.is windows trees.channels
+    (windows_off flat.tech.now flat.boxes.now trees.channels are.channels windows are.boxes.windows) call.ensures
