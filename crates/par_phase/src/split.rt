@@ -134,9 +134,9 @@ fn join_places<T, U: Drop, F: Fn(&T) -> Result<U, AllocError>>(
 
 /// What `f` answers at each element, in order, whatever the number of shares and whatever the gate. The shares run in
 /// threads of their own where these can be made. Each passes the gate once before its first element, also where it
-/// has none. The list is in `BLOCKS_PER_SHARE` blocks for each share, or as many as it has elements where these are fewer, and
-/// each share takes one block after another, so that one with cheap elements takes more of them. The only refusal is want
-/// of memory, here or in `f`.
+/// has none. The list is in `BLOCKS_PER_SHARE` blocks for each share, or as many as it has elements where these are
+/// fewer, and each share takes one block after another, so that one with cheap elements takes more of them. The only
+/// refusal is want of memory, here or in `f`.
 pub fn map_split<
     H: Threads + Sync,
     T: Sync,
