@@ -10,3 +10,4 @@ pub mod Marking
 pub mod Worklists
 pub mod LeftOut
 pub mod Looked
+pub mod Leaving

@@ -6,3 +6,4 @@ pub mod Running
 pub mod Sorted
 pub mod Marked
 pub mod Worklist
+pub mod Leaving

@@ -1,10 +1,11 @@
 ghost use Rattle.std.specs.Prelude.{◌≡◌, ℕ, ◌^◌, ◌<◌, ◌≤◌, ℤ, pos, neg_ℤ, ◌≤ℤ◌, length, All, IfSome, List};
 ghost use Rattle.cons_graph.specs.{Constraints.IsEdgeAmong, EdgeNumbers.edge_at};
 ghost use Rattle.round_log.specs.Looks.{label, raise_by, raise_of, is_forward};
-ghost use Rattle.liao_wong.specs.Held.{HasSmallLabels, IsPushable, ArePlaces};
+ghost use Rattle.liao_wong.specs.{Held.{HasSmallLabels, IsPushable, ArePlaces}, Leaving.edge_of};
 
 use crate::raises::Raises;
-use cons_graph::Edge;
+use cons_graph::{Edge, Why};
+use edge_index::Head;
 use round_log::Entry;
 
 // The raise that a look at an edge makes, if it makes one.
@@ -15,9 +16,18 @@ pub fn raise_at(raises: &Raises, edges: &[Edge], number: u32) -> Option<Entry>
     ensures value { result ≡ raise_of (edge_at edges.now) raises.now.raises number }
     ensures pushable { IfSome result (IsPushable raises.now) }
 {
-    let edge = edges[number as usize];
+    raise_along(raises, &edges[number as usize], number)
+}
+
+// The same of an edge that has been read, and its number.
+pub fn raise_along(raises: &Raises, edge: &Edge, number: u32) -> Option<Entry>
+    requires among { IsEdgeAmong raises.now.vars edge.now }
+    requires small { HasSmallLabels raises.now }
+    ensures value { result ≡ raise_of (λ _. edge.now) raises.now.raises number }
+    ensures pushable { IfSome result (IsPushable raises.now) }
+{
     let tail = raises.label(edge.from)?;
-    raise_from(raises, &edge, number, raises.latest(edge.from), tail)
+    raise_from(raises, edge, number, raises.latest(edge.from), tail)
 }
 
 // The raise that an edge makes whose tail has this label.
@@ -41,6 +51,18 @@ fn raise_from(raises: &Raises, edge: &Edge, number: u32, prev: u64, tail: i64) -
         edge: number,
         prev,
     })
+}
+
+// The edge from a variable that has this head, but for why it is there, of which no look asks.
+pub fn edge_from(tail: u32, head: Head) -> Edge
+    ensures { result ≡ edge_of tail head }
+{
+    Edge {
+        from: tail,
+        to: head.to,
+        len: i64::from(head.len),
+        why: Why::Size,
+    }
 }
 
 // Whether an edge goes up in the order whose places these are.

@@ -2,14 +2,15 @@ ghost use Rattle.std.specs.Prelude.{◌≡◌, ℕ, ◌<◌, false, length, slic
 ghost use Rattle.round_log.specs.{Looks.{look, backward_numbers}, Rounds.{schedule_of, forward_part, backward_part}};
 ghost use Rattle.cons_graph.specs.EdgeNumbers.{edge_at, leaving};
 ghost use Rattle.edge_index.specs.Runs.{IsIndexOf};
-ghost use Rattle.liao_wong.specs.{Going.{IsReady, forward_of, group_of}, Marked.is_marked, Worklist.IsWorklist};
-ghost use Rattle.liao_wong.specs.Worklist.{BackwardOnesWait, HasLookedForward, HasNoneReady, HasLookedAtPlace};
+ghost use Rattle.liao_wong.specs.{Going.{IsReady, forward_of, group_of}, Leaving.LeaveFrom, Marked.is_marked};
+ghost use Rattle.liao_wong.specs.Worklist.{IsWorklist, BackwardOnesWait, HasLookedForward, HasNoneReady};
+ghost use Rattle.liao_wong.specs.Worklist.{HasLookedAtPlace};
 
-use crate::looks::{goes_up, raise_at};
+use crate::looks::{edge_from, goes_up, raise_along, raise_at};
 use crate::raises::Raises;
 use crate::worklist::{Order, Worklist};
 use cons_graph::{Edge, Graph};
-use edge_index::EdgeIndex;
+use edge_index::{EdgeIndex, Head};
 use std::alloc::AllocError;
 
 // The forward part of a round: looks at the forward edges whose tails are ready, by their tails in order.
@@ -66,23 +67,34 @@ fn look_at_place(
         raises.new.raises) }
     ensures place { OnOk result (HasLookedAtPlace place work.old.ready work.new.ready) }
 {
-    let numbers = index.out_of(order.variables[place]);
-    look_at_forward(raises, work, g.edges(), numbers, order)?;
+    let v = order.variables[place];
+    look_at_forward(
+        raises,
+        work,
+        g.edges(),
+        v,
+        index.out_of(v),
+        index.heads_out_of(v),
+        order,
+    )?;
     work.ready.clear(place);
     Ok(())
 }
 
-// Looks at those of the edges that are forward, and makes the variables ready that they raise. The others wait.
+// Looks at those of the edges out of a variable that are forward, and makes the variables ready that they raise. The
+// others wait. What an edge is comes from its head: the list is here for what the contract says.
 fn look_at_forward(
     raises: &mut Raises,
     work: &mut Worklist,
     edges: &[Edge],
+    tail: u32,
     numbers: &[u32],
+    heads: &[Head],
     order: &Order,
 ) -> Result<(), AllocError>
     requires ready { IsReady raises.old.vars edges.now order.now.variables.now
         order.now.places.items raises.old }
-    requires in_range { All (λ k. k < length edges.now) numbers.now }
+    requires leave { LeaveFrom edges.now tail numbers.now heads.now }
     requires worklist { IsWorklist edges.now order.now.variables.now work.old.ready work.old.waiting
         raises.old.raises }
     ensures looks { OnOk result (raises.new ≡ record {
@@ -94,13 +106,13 @@ fn look_at_forward(
         raises.new.raises) }
     ensures waiting { OnOk result (BackwardOnesWait edges.now order.now.variables.now numbers.now
         work.new.waiting) }
-    ensures looked { OnOk result ((tail : ℕ) → All (λ k. (edge_at edges.now k).from ≡ tail) numbers.now
-        → HasLookedForward edges.now order.now.variables.now numbers.now tail work.old.ready work.new.ready
-        raises.new.raises) }
+    ensures looked { OnOk result (HasLookedForward edges.now order.now.variables.now numbers.now tail
+        work.old.ready work.new.ready raises.new.raises) }
 {
-    for k in numbers {
-        if goes_up(&edges[*k as usize], &order.places) {
-            if let Some(raise) = raise_at(raises, edges, *k) {
+    for (i, k) in numbers.iter().enumerate() {
+        let edge = edge_from(tail, heads[i]);
+        if goes_up(&edge, &order.places) {
+            if let Some(raise) = raise_along(raises, &edge, *k) {
                 raises.push(raise)?;
                 work.ready.set(order.place(raise.var));
             }
@@ -142,7 +154,8 @@ pub fn look_backward(
             if stops {
                 return Ok(true);
             }
-            work.mark_raised(edges, index.out_of(raise.var), order, raise.var);
+            let v = raise.var;
+            work.mark_raised(edges, index.out_of(v), index.heads_out_of(v), order, v);
         }
         work.waiting.clear(k);
         at = k + 1;

@@ -1,11 +1,13 @@
 ghost use Rattle.std.specs.Prelude.{◌≡◌, ℕ, ◌^◌, ◌<◌, ◌≤◌, true, false, length, slice_set, All, IfOk};
 ghost use Rattle.cons_graph.specs.Constraints.{IsConstraintGraph};
 ghost use Rattle.round_log.specs.{Looks.place_in, Orders.NamesEachOnce};
-ghost use Rattle.liao_wong.specs.{Held.ArePlaces, Marked.is_marked, Worklist.{WaitToo, BackwardOnesWait}};
+ghost use Rattle.liao_wong.specs.{Held.ArePlaces, Leaving.LeaveFrom, Marked.is_marked};
+ghost use Rattle.liao_wong.specs.Worklist.{WaitToo, BackwardOnesWait};
 
-use crate::looks::goes_up;
+use crate::looks::{edge_from, goes_up};
 use crate::marks::Marks;
 use cons_graph::Edge;
+use edge_index::Head;
 use std::alloc::{AllocError, Global};
 
 // An order of the variables, and the place of each in it.
@@ -37,10 +39,17 @@ impl Order<'_> {
     }
 }
 
-// Marks those of the edges that do not go up in the order.
-fn mark_backward(waiting: &mut Marks, edges: &[Edge], numbers: &[u32], order: &Order)
+// Marks those of the edges out of a variable that do not go up in the order.
+fn mark_backward(
+    waiting: &mut Marks,
+    edges: &[Edge],
+    tail: u32,
+    numbers: &[u32],
+    heads: &[Head],
+    order: &Order,
+)
     requires room { length waiting.old ≡ length edges.now }
-    requires in_range { All (λ k. k < length edges.now) numbers.now }
+    requires leave { LeaveFrom edges.now tail numbers.now heads.now }
     requires places { ArePlaces order.now.variables.now (length order.now.places.items)
         order.now.places.items }
     requires ends { All (λ e. (e.from < length order.now.places.items)
@@ -48,8 +57,8 @@ fn mark_backward(waiting: &mut Marks, edges: &[Edge], numbers: &[u32], order: &O
     ensures grows { WaitToo edges.now order.now.variables.now waiting.old waiting.new }
     ensures all { BackwardOnesWait edges.now order.now.variables.now numbers.now waiting.new }
 {
-    for k in numbers {
-        if !goes_up(&edges[*k as usize], &order.places) {
+    for (i, k) in numbers.iter().enumerate() {
+        if !goes_up(&edge_from(tail, heads[i]), &order.places) {
             waiting.set(*k as usize);
         }
     }
@@ -73,14 +82,21 @@ impl Worklist {
     // Marks what a raise of a variable makes worth a look: its forward edges, and the backward ones of those that leave
     // it. While it is ready they wait already, but for those that the backward part has passed, and these are marked
     // when the next forward part comes to the variable.
-    pub fn mark_raised(&mut self, edges: &[Edge], numbers: &[u32], order: &Order, v: u32)
+    pub fn mark_raised(
+        &mut self,
+        edges: &[Edge],
+        numbers: &[u32],
+        heads: &[Head],
+        order: &Order,
+        v: u32,
+    )
         requires in_range { v < length order.now.places.items }
         requires names { NamesEachOnce (length order.now.places.items) order.now.variables.now }
         requires places { ArePlaces order.now.variables.now (length order.now.places.items)
             order.now.places.items }
         requires ends { All (λ e. (e.from < length order.now.places.items)
             × (e.to < length order.now.places.items)) edges.now }
-        requires numbers { All (λ k. k < length edges.now) numbers.now }
+        requires leave { LeaveFrom edges.now v numbers.now heads.now }
         requires ready { length self.old.ready ≡ length order.now.variables.now }
         requires waiting { length self.old.waiting ≡ length edges.now }
         ensures ready { self.new.ready ≡ slice_set self.old.ready (place_in order.now.variables.now v) true }
@@ -90,7 +106,7 @@ impl Worklist {
     {
         let place = order.place(v);
         if !self.ready.has(place) {
-            mark_backward(&mut self.waiting, edges, numbers, order);
+            mark_backward(&mut self.waiting, edges, v, numbers, heads, order);
         }
         self.ready.set(place);
     }

@@ -1,6 +1,6 @@
 use Rattle.std.proofs.Common.{◌≡◌, ℕ, ◌+◌, ◌<◌, true, false, Bool, Some, None, List, ◌∷◌, drop, fold, get_or, length}
-use Rattle.std.proofs.{Common.{set, sym, ap, subst, ◌∙◌, inl, inr, arith, below_more}, lemmas.Bool.true≢false}
-use Rattle.std.{proofs.lemmas.List.get_or_default, specs.List.All}
+use Rattle.std.proofs.{Common.{set, sym, ap, subst, ◌∙◌, inl, inr, arith}, lemmas.Bool.true≢false}
+use Rattle.std.proofs.lemmas.List.{get_or_default}
 use Rattle.cons_graph.specs.{declared.edges.Edge.Edge, EdgeNumbers.edge_at}
 use Rattle.round_log.specs.{declared.log.Entry.Entry, Looks.{look, is_forward, raise_of, place_in}}
 use Rattle.round_log.proofs.Members.{cases_option}
@@ -8,43 +8,54 @@ use Rattle.liao_wong.specs.{Held.{Held, ArePlaces}, Going.{IsReady, forward_of},
 use Rattle.liao_wong.{specs.declared.worklist.Worklist.Worklist, proofs.Marking.{set_here, set_keeps, wait_none_more}}
 use Rattle.liao_wong.proofs.{Marking.wait_one_more, Worklists.{worklist_raised, worklist_waits}, Looked.HasLookedUpTo}
 use Rattle.liao_wong.proofs.{Looked.{looked_quietly, looked_raising, looked_all}, Steps.{ready_small, places_by_length}}
+use Rattle.cons_graph.specs.Constraints.{IsEdgeAmong}
+use Rattle.liao_wong.proofs.Leaving.{IsSeen, seen_at, seen_forward, seen_raise, seen_among, waits_or_up}
 use Rattle.liao_wong.proofs.Steps.{ready_forward, left_look, left_skip, look_raises, look_leaves}
 use Rattle.liao_wong.proofs.rounds.look_at_forward.Goals.{then-goes_up+in-Some+in_ok-push, then-goes_up+in_default}
 use Rattle.liao_wong.proofs.rounds.look_at_forward.Goals.{else-goes_up}
 use Rattle.liao_wong.proofs.rounds.look_at_forward.Goals as goal
 
-pub raise_at-requires-clause-small : goal.raise_at-requires-clause-small
-raise_at-requires-clause-small c =
+pub goes_up-requires-clause-to_in_range : goal.goes_up-requires-clause-to_in_range
+goes_up-requires-clause-to_in_range c =
+    let vars : ℕ = c.args.raises.now.vars in
+    let edges : List Edge = c.args.edges.now in
+    let i : ℕ = c.loop-i.i in
+    let edge : Edge = c.edge_from-edge.result in
+    let seen = seen_at edges c.args.tail c.args.numbers.now c.args.heads.now i edge c.requires.leave c.loop-i-test.true
+    c.edge_from-edge.ensures in
+    let among : IsEdgeAmong vars edge = seen_among vars edges (get_or c.args.numbers.now i 0) edge
+    c.requires.ready.shape (c.requires.leave.in_range i 0 c.loop-i-test.true) seen in
+    let small : edge.to < vars = among.to_in_range in
+    let one_each : length c.args.order.now.places.items ≡ vars = c.requires.ready.places_are.0 in
+    let read = ap length c.deref.ensures.value in
+    omega (arith, small, one_each, read)
+
+pub raise_along-requires-clause-small : goal.raise_along-requires-clause-small
+raise_along-requires-clause-small c =
     ready_small c.args.raises.now.vars c.args.edges.now c.args.order.now.variables.now c.args.order.now.places.items
-    c.loop-k.raises c.loop-k.invariant.ready
+    c.loop-i.raises c.loop-i.invariant.ready
 
--- one edge more that waits if it is backward
-waits_or_up : (edges : List Edge) (order numbers : List ℕ) (i : ℕ) (waiting : List Bool)
-    → ((j : ℕ) → j < i → is_forward order (edge_at edges (get_or numbers j 0)) ≡ false
-    → is_marked waiting (get_or numbers j 0) ≡ true) → (is_forward order (edge_at edges (get_or numbers i 0)) ≡ false
-    → is_marked waiting (get_or numbers i 0) ≡ true) → (j : ℕ) → j < i + 1 → is_forward order (edge_at edges
-    (get_or numbers j 0)) ≡ false → is_marked waiting (get_or numbers j 0) ≡ true
-waits_or_up edges order numbers i waiting before here =
-    below_more (λ j. is_forward order (edge_at edges (get_or numbers j 0)) ≡ false
-    → is_marked waiting (get_or numbers j 0) ≡ true) i before here
-
-pub loop-k-preserved : goal.loop-k-preserved
-loop-k-preserved c =
+pub loop-i-preserved : goal.loop-i-preserved
+loop-i-preserved c =
     let vars : ℕ = c.args.raises.now.vars in
     let edges : List Edge = c.args.edges.now in
     let order : List ℕ = c.args.order.now.variables.now in
     let places : List ℕ = c.args.order.now.places.items in
+    let tail : ℕ = c.args.tail in
     let numbers : List ℕ = c.args.numbers.now in
-    let i : ℕ = c.loop-k.k-index in
+    let i : ℕ = c.loop-i.i in
     let k : ℕ = get_or numbers i 0 in
-    let held : Held = c.loop-k.raises in
+    let held : Held = c.loop-i.raises in
     let old : List Bool = c.args.work.now.ready in
-    let ready : List Bool = c.loop-k.work.ready in
-    let waiting : List Bool = c.loop-k.work.waiting in
+    let ready : List Bool = c.loop-i.work.ready in
+    let waiting : List Bool = c.loop-i.work.waiting in
     let before : List Entry = c.args.raises.now.raises in
-    let lt : i < length numbers = c.loop-k-test.true in
-    let inside : k < length edges = c.requires.in_range i 0 lt in
-    let inv = c.loop-k.invariant in
+    let lt : i < length numbers = c.loop-i-test.true in
+    let inside : k < length edges = c.requires.leave.in_range i 0 lt in
+    let edge : Edge = c.edge_from-edge.result in
+    let seen : IsSeen edges k edge =
+    seen_at edges tail numbers c.args.heads.now i edge c.requires.leave lt c.edge_from-edge.ensures in
+    let inv = c.loop-i.invariant in
     let is_ready : IsReady vars edges order places held = inv.ready in
     let end : List Entry = fold (look (edge_at edges)) before (forward_of edges order numbers) in
     let P : Held → Worklist → Type 0 = λ h x. record {
@@ -53,8 +64,7 @@ loop-k-preserved c =
       worklist : IsWorklist edges order x.ready x.waiting h.raises;
       wait : (j : ℕ) → j < i + 1 → is_forward order (edge_at edges (get_or numbers j 0)) ≡ false
           → is_marked x.waiting (get_or numbers j 0) ≡ true;
-      looked : (tail : ℕ) → All (λ k. (edge_at edges k).from ≡ tail) numbers
-          → HasLookedUpTo edges order numbers (i + 1) tail old x.ready h.raises;
+      looked : HasLookedUpTo edges order numbers (i + 1) tail old x.ready h.raises;
     } in
     let Q : Held → Type 0 = λ h. P h c.if-goes_up.work in
     let A : List ℕ → Type 0 = λ ps. ArePlaces order (length ps) ps in
@@ -63,8 +73,10 @@ loop-k-preserved c =
     elim c.if-goes_up.branch as (λ _. P c.if-goes_up.raises c.if-goes_up.work) [
       | then-goes_up+in-Some+in_ok-push w ↦ (
           let r : Entry = w.in-Some.raise in
-          let up : is_forward order (edge_at edges k) ≡ true = sym (w.if-goes_up.ensures order at') in
-          let e : raise_of (edge_at edges) held.raises k ≡ Some r = sym w.in-Some.ensures.value in
+          let up : is_forward order (edge_at edges k) ≡ true = sym (seen_forward edges order k edge seen)
+          ∙ sym (w.if-goes_up.ensures order at') in
+          let e : raise_of (edge_at edges) held.raises k ≡ Some r =
+          sym (seen_raise edges held.raises k edge seen) ∙ sym w.in-Some.ensures.value in
           let now : record { vars = held.vars; raises = r ∷ held.raises } ≡ c.if-goes_up.raises =
           sym (w.raises-is ∙ w.in_ok-push.ensures.ok) in
           let place : ℕ = place_in order r.var in
@@ -84,14 +96,19 @@ loop-k-preserved c =
             worklist = worklist_raised edges order ready waiting waiting held.raises k r inv.worklist e small
                 (wait_none_more edges order waiting);
             wait = waits_or_up edges order numbers i waiting inv.wait (λ down. absurd (true≢false (sym up ∙ down)));
-            looked = λ tail all. looked_raising vars edges order numbers i tail old ready held.raises r is_ready.shape
-                c.requires.in_range lt all up e (inv.looked tail all);
+            looked = looked_raising vars edges order numbers i tail old ready held.raises r is_ready.shape
+                c.requires.leave.in_range lt c.requires.leave.tails up e inv.looked;
           }))))
       | then-goes_up+in_default w ↦ (
-          let up : is_forward order (edge_at edges k) ≡ true = sym (w.if-goes_up.ensures order at') in
+          let up : is_forward order (edge_at edges k) ≡ true = sym (seen_forward edges order k edge seen)
+          ∙ sym (w.if-goes_up.ensures order at') in
           let none : raise_of (edge_at edges) held.raises k ≡ None =
-          elim (cases_option (raise_of (edge_at edges) held.raises k))
-          [ inl n ↦ n | inr s ↦ absurd (w.in_default.not-Some s.0 (w.raise_at.ensures.value ∙ s.1)) ] in
+          elim (cases_option (raise_of (edge_at edges) held.raises k)) [
+            | inl n ↦ n
+            | inr s ↦
+                absurd (w.in_default.not-Some s.0
+                (w.raise_along.ensures.value ∙ seen_raise edges held.raises k edge seen ∙ s.1))
+          ] in
           let W : Worklist → Type 0 = λ x. P held x in
           subst Q (sym w.raises-is) (subst W (sym w.work-is) (record {
             ready = is_ready;
@@ -100,11 +117,12 @@ loop-k-preserved c =
                 ∙ left_look edges order numbers i held.raises lt up ∙ inv.left;
             worklist = inv.worklist;
             wait = waits_or_up edges order numbers i waiting inv.wait (λ down. absurd (true≢false (sym up ∙ down)));
-            looked = λ tail all. looked_quietly edges order numbers i tail old ready held.raises (inv.looked tail all)
+            looked = looked_quietly edges order numbers i tail old ready held.raises inv.looked
                 (λ _. none);
           })))
       | else-goes_up w ↦ (
-          let down : is_forward order (edge_at edges k) ≡ false = sym (w.if-goes_up.ensures order at') in
+          let down : is_forward order (edge_at edges k) ≡ false = sym (seen_forward edges order k edge seen)
+          ∙ sym (w.if-goes_up.ensures order at') in
           let one_each = inv.worklist.one_waiting_each in
           let room : k < length waiting = omega (arith, one_each, inside) in
           let now : List Bool = set waiting k true in
@@ -118,20 +136,19 @@ loop-k-preserved c =
             wait = waits_or_up edges order numbers i now
                 (λ j less back. set_keeps waiting k (get_or numbers j 0) room (inv.wait j less back))
                 (λ _. set_here waiting k true room);
-            looked = λ tail all. looked_quietly edges order numbers i tail old ready held.raises (inv.looked tail all)
+            looked = looked_quietly edges order numbers i tail old ready held.raises inv.looked
                 (λ up. absurd (true≢false (sym up ∙ down)));
           }))))
     ]
 
 pub returns-clause-waiting : goal.returns-clause-waiting
 returns-clause-waiting c j d lt =
-    let waiting : List Bool = c.loop-k.work.waiting in
+    let waiting : List Bool = c.loop-i.work.waiting in
     let order : List ℕ = c.args.order.now.variables.now in
     let Waits : ℕ → Type 0 = λ k. is_forward order (edge_at c.args.edges.now k) ≡ false → is_marked waiting k ≡ true in
-    subst Waits (get_or_default c.args.numbers.now j 0 d lt) (c.loop-k.invariant.wait j (omega arith))
+    subst Waits (get_or_default c.args.numbers.now j 0 d lt) (c.loop-i.invariant.wait j (omega arith))
 
 pub returns-clause-looked : goal.returns-clause-looked
-returns-clause-looked c tail all =
-    looked_all c.args.edges.now c.args.order.now.variables.now c.args.numbers.now c.loop-k.k-index tail
-    c.args.work.now.ready c.loop-k.work.ready c.loop-k.raises.raises (omega arith)
-    (c.loop-k.invariant.looked tail all)
+returns-clause-looked c =
+    looked_all c.args.edges.now c.args.order.now.variables.now c.args.numbers.now c.loop-i.i c.args.tail
+    c.args.work.now.ready c.loop-i.work.ready c.loop-i.raises.raises (omega arith) c.loop-i.invariant.looked

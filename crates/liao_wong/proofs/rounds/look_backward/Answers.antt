@@ -7,8 +7,8 @@ use Rattle.round_log.proofs.{Members.cases_option, Least.edge_among, Planned.{pl
 use Rattle.liao_wong.specs.{Held.Held, Going.{IsReady, backward_of}, Marked.{AreUnmarked, IsNextMark}}
 use Rattle.liao_wong.specs.{Worklist.{IsWorklist, WaitToo}, declared.worklist.Worklist.Worklist}
 use Rattle.liao_wong.proofs.Steps.{ready_small, ready_backward, back_leaves, back_raises, back_stops}
-use Rattle.liao_wong.proofs.Worklists.{AheadWait, own_none, all_in_range, backward_wait, worklist_raised}
-use Rattle.liao_wong.proofs.Worklists.{worklist_looked, ahead_looked, ahead_raised}
+use Rattle.liao_wong.proofs.Worklists.{AheadWait, own_none, backward_wait, worklist_raised, worklist_looked}
+use Rattle.liao_wong.proofs.{Worklists.{ahead_looked, ahead_raised}, Leaving.all_leave}
 use Rattle.liao_wong.proofs.rounds.look_backward.Goals.{in-Some-raise_at+in_ok-push+else-stops, in_default-raise_at}
 use Rattle.liao_wong.proofs.LeftOut.{left_to_edge}
 use Rattle.liao_wong.proofs.rounds.look_backward.Goals as goal
@@ -18,13 +18,15 @@ raise_at-requires-clause-small c =
     ready_small c.args.g.now.vars c.args.g.now.edges c.args.order.now.variables.now c.args.order.now.places.items
     c.loop-k.raises c.loop-k.invariant.ready
 
-pub mark_raised-requires-clause-numbers : goal.mark_raised-requires-clause-numbers
-mark_raised-requires-clause-numbers c =
+pub mark_raised-requires-clause-leave : goal.mark_raised-requires-clause-leave
+mark_raised-requires-clause-leave c =
     let v : ℕ = c.in-Some-raise_at.raise.var in
     let vars = c.loop-k.invariant.ready.same_vars in
     let small = c.in-Some-raise_at.ensures.pushable.0 in
-    all_in_range c.args.g.now.edges c.edges-edges.result.now v c.out_of.result.now c.edges-edges.ensures.value
-    (c.out_of.ensures ∙ c.requires.index.leave v (omega (arith, vars, small)))
+    let inside : v < c.args.g.now.vars = omega (arith, vars, small) in
+    all_leave c.args.g.now.edges c.edges-edges.result.now v c.out_of.result.now c.heads_out_of.result.now
+    c.edges-edges.ensures.value (c.out_of.ensures ∙ c.requires.index.leave v inside)
+    (c.heads_out_of.ensures ∙ c.requires.index.lead v inside)
 
 pub returns-then-stops-clause-part : goal.returns-then-stops-clause-part
 returns-then-stops-clause-part c =
