@@ -60,8 +60,8 @@ def seconds(words, times):
 
 # where passes run, and the first passes of `edit`: functions of these crates and modules, and those into which the
 # compiler puts such functions
-PASS = ("pass_run", "shadow_prune", "scan_line", "pair_rules", "pitch_join", "liao_wong", "round_log", "edge_index",
-        "cons_graph", "par_phase", "fork::calls_from")
+PASS = ("pass_run", "shadow_prune", "bar_rows", "bar_tree", "bar_sight", "bar_sweep", "pair_set", "scan_line",
+        "pair_rules", "pitch_join", "liao_wong", "round_log", "edge_index", "cons_graph", "par_phase", "fork::calls_from")
 FIRST = ("first_pass::", "edit_session", "edit::word_on", "edit::word_over", "edit_command::least")
 
 

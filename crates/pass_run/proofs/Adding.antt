@@ -1,6 +1,6 @@
 -- The inequalities of the kept pairs of masters, as they are found and added to the list.
-use Rattle.std.proofs.Common.{true, ◌≡◌, ℕ, ◌+◌, ◌<◌, ◌≤◌, ◌^◌, List, ◌++◌, length, map, take, get_or, refl, ap, ◌∙◌}
-use Rattle.std.proofs.{Common.{inl, inr, arith, All, flat_map}, lemmas.List.{length-append, length-map}}
+use Rattle.std.proofs.Common.{◌≡◌, ℕ, ◌+◌, ◌<◌, ◌≤◌, ◌^◌, List, ◌++◌, length, map, get_or, sym, ap, ◌∙◌, subst}
+use Rattle.std.proofs.{Common.{arith, All, Vec, Global, flat_map}, lemmas.List.{length-append, length-map}}
 use Rattle.std.proofs.lemmas.List.{Folds.length-flat_map-take, FromFn.{length-range_with_len, get_or-range_with_len}}
 use Rattle.std.specs.List.{range_with_len}
 use Rattle.lam_geom.specs.declared.boxes.Axis.{Axis}
@@ -8,15 +8,13 @@ use Rattle.rule_table.specs.declared.technology.Tech.{Tech}
 use Rattle.cons_graph.specs.declared.edges.Edge.{Edge}
 use Rattle.sym_items.specs.{declared.items.{Item.Item, Coords.Coords}, Layouts.layout_at}
 use Rattle.expand.specs.{declared.master.Master.Master, Laws.IsLawful}
-use Rattle.pair_rules.specs.declared.pairs.Pair.{Pair}
-use Rattle.pitch_join.specs.{Masters.{master_at, master_numbers}, Joined.{base_of, system_variables, shifted}}
-use Rattle.pitch_join.{specs.{Joined.{space_edge, kept_edges_at}, Spaces.EndsBelow}, proofs.Bases.base_within}
-use Rattle.shadow_prune.specs.{declared.keeping.KeptFault.KeptFault, KeptFaults.{RefusesExactly, RefusesKept}}
-use Rattle.shadow_prune.{specs.Between.kept_between, proofs.KeptSoFar.more_for}
-use Rattle.par_phase.specs.declared.ranges.Range.{Range}
-use Rattle.pass_run.specs.{Laid.{IsLaidOut, AreLaidOut}, Passes.kept_count, declared.finding.Found.Found}
-use Rattle.pass_run.specs.{Alike.most_edges, Found.{AreFoundOf, RefusesFound, edges_between}}
-use Rattle.pass_run.proofs.{Lists.{map_twice, first_numbers}, FoundEdges.{many_found, no_more_found}}
+use Rattle.pair_rules.specs.{declared.pairs.Pair.Pair, Kept.kept_of}
+use Rattle.pitch_join.specs.{Masters.{master_at, master_numbers}, Joined.{own_variables, shifted, space_edge}}
+use Rattle.pitch_join.specs.{Joined.kept_edges_at, Spaces.EndsBelow}
+use Rattle.shadow_prune.specs.{declared.keeping.KeptFault.KeptFault, KeptFaults.RefusesKept}
+use Rattle.pass_run.specs.{declared.finding.Found.{Found, TheVariants.{Edges, TooMany}}, Found.{IsFound, AreFound}}
+use Rattle.pass_run.specs.{Alike.most_edges, Laid.{IsLaidOut, AreLaidOut}, Passes.kept_count}
+use Rattle.pass_run.{specs.OneMaster.own_kept_edges, proofs.Lists.{map_twice, first_numbers}}
 use Rattle.shadow_prune.specs.declared.keeping.KeptFault.TheVariants as faults
 
 -- what the code has of master m is laid out
@@ -26,91 +24,79 @@ pub own_laid : (tech : Tech) (masters : List Master) (layouts : List Coords) (m 
 own_laid tech masters layouts m master c laid lt is at = rw (is, at) (laid.each m lt)
 
 -- the joint variables of its items are small
-pub own_below : (axis : Axis) (tech : Tech) (masters : List Master) (m base : ℕ) (master : Master)
-    → system_variables axis masters ≤ 2 ^ 17 → IsLawful tech (master_at masters m) → m < length masters
-    → master ≡ master_at masters m → base ≡ base_of axis masters m → All (EndsBelow base axis) master.items.list
-own_below axis tech masters m base master few lawful lt is at =
-    rw is (λ k d k_lt.
-    let lies = lawful.lie axis k d k_lt in
+pub own_below : (axis : Axis) (tech : Tech) (base : ℕ) (master : Master) → IsLawful tech master
+    → base + own_variables axis master ≤ 2 ^ 17 → All (EndsBelow base axis) master.items.list
+own_below axis tech base master lawful few = λ k d lt.
+    let lies = lawful.lie axis k d lt in
     let low = lies.low_among.among in
     let high = lies.high_among.among in
-    let within = base_within axis masters m lt in
-    record { low = omega arith; high = omega arith })
+    record { low = omega arith; high = omega arith }
 
--- the inequalities of some of its kept pairs, one by one
-pub own_edges : (axis : Axis) (tech : Tech) (base : ℕ) (master : Master) (c : Coords) (range : Range)
-    (items : List Item) (pairs : List Pair) (edges : List Edge) → items ≡ master.items.list
-    → pairs ≡ kept_between axis tech c items range.from range.to
+-- the inequalities of its kept pairs, one by one
+pub own_edges : (axis : Axis) (tech : Tech) (base : ℕ) (master : Master) (c : Coords) (items : List Item)
+    (pairs : List Pair) (edges : List Edge) → items ≡ master.items.list → pairs ≡ kept_of axis tech c items
     → edges ≡ map (λ p. shifted base (space_edge axis items p)) pairs
-    → edges ≡ edges_between axis tech base master c range
-own_edges axis tech base master c range items pairs edges are kept is =
+    → edges ≡ own_kept_edges axis tech base master c
+own_edges axis tech base master c items pairs edges are kept is =
     let of : List Item → List Pair → List Edge = λ it ps. map (shifted base) (map (space_edge axis it) ps) in
     is ∙ (map_twice (shifted base) (space_edge axis items) pairs
-    ∙ (ap (of items) kept ∙ ap (λ it. of it (kept_between axis tech c it range.from range.to)) are))
-
--- ---- refusals
+    ∙ (ap (of items) kept ∙ ap (λ it. of it (kept_of axis tech c it)) are))
 
 -- there are as many of them as kept pairs
 pub edges_counted : (axis : Axis) (tech : Tech) (masters : List Master) (layouts : List Coords) (m : ℕ)
     → length (kept_edges_at axis tech masters layouts m) ≡ kept_count axis tech masters layouts m
 edges_counted axis tech masters layouts m = length-map _ _ ∙ length-map _ _
 
--- where the kept pairs of the first masters and of master m are too many, those of all are
-pub refused_so_far : (axis : Axis) (tech : Tech) (masters : List Master) (layouts : List Coords) (m limit count : ℕ)
-    (old now : List Edge) (fault : KeptFault) → m < length masters
-    → now ≡ old ++ flat_map (kept_edges_at axis tech masters layouts) (range_with_len 0 m)
-    → count ≡ kept_count axis tech masters layouts m → RefusesExactly limit (length now + count) fault
-    → RefusesKept limit (length (old ++ flat_map (kept_edges_at axis tech masters layouts) (master_numbers masters)))
-    fault
-refused_so_far axis tech masters layouts m limit count old now fault lt is is_count refused =
-    let piece : ℕ → List Edge = kept_edges_at axis tech masters layouts in
-    let numbers : List ℕ = master_numbers masters in
-    let numbered : length numbers ≡ length masters = length-range_with_len 0 (length masters) in
+-- the pieces of the first numbers, and of the next one, are not more than those of all
+pieces_within : {A : Type 0} (piece : ℕ → List A) (m n : ℕ) → m < n
+    → length (flat_map piece (range_with_len 0 m)) + length (piece m) ≤ length (flat_map piece (range_with_len 0 n))
+pieces_within piece m n lt =
+    let numbers : List ℕ = range_with_len 0 n in
+    let numbered : length numbers ≡ n = length-range_with_len 0 n in
     let whole = length-flat_map-take piece numbers m 0 (omega arith) in
-    let first : take m numbers ≡ range_with_len 0 m = first_numbers m (length masters) (omega arith) in
-    let firsts : length (flat_map piece (take m numbers)) ≡ length (flat_map piece (range_with_len 0 m)) =
-    ap (λ ns. length (flat_map piece ns)) first in
+    let firsts = ap (λ ns. length (flat_map piece ns)) (first_numbers m n (omega arith)) in
     let e : 0 + m ≡ m = omega arith in
-    let at : get_or numbers m 0 ≡ m = get_or-range_with_len 0 (length masters) m 0 lt ∙ e in
-    let own : length (piece (get_or numbers m 0)) ≡ length (piece m) = ap (λ k. length (piece k)) at in
-    let counted = edges_counted axis tech masters layouts m in
-    let now_is : length now ≡ length old + length (flat_map piece (range_with_len 0 m)) = ap (λ es. length es) is
-    ∙ length-append old _ in
-    let all_is = length-append old (flat_map piece numbers) in
-    more_for limit _ _ fault (omega arith) refused
+    let own = ap (λ k. length (piece k)) (get_or-range_with_len 0 n m 0 lt ∙ e) in
+    omega (arith, whole, firsts, own)
 
--- where the kept pairs of one master alone are more than the inequalities before all of them leave room for, all are
--- too many
-pub one_too_many : (axis : Axis) (tech : Tech) (masters : List Master) (layouts : List Coords) (m room : ℕ)
-    (old now : List Edge) → m < length masters → most_edges ≤ room + length old
-    → now ≡ old ++ flat_map (kept_edges_at axis tech masters layouts) (range_with_len 0 m)
-    → room < kept_count axis tech masters layouts m
-    → most_edges < length (old ++ flat_map (kept_edges_at axis tech masters layouts) (master_numbers masters))
-one_too_many axis tech masters layouts m room old now lt rest is many =
-    let now_is : length now ≡ length old + length
-    (flat_map (kept_edges_at axis tech masters layouts) (range_with_len 0 m)) = ap (λ es. length es) is
-    ∙ length-append old _ in
-    refused_so_far axis tech masters layouts m most_edges (kept_count axis tech masters layouts m) old now
-    faults.TooMany lt is (λ i. kept_count axis tech masters layouts m) (omega arith)
+-- more are refused, too
+refused_more : (limit m n : ℕ) (fault : KeptFault) → m ≤ n → RefusesKept limit m fault → RefusesKept limit n fault
+refused_more limit m n faults.TooMany le refused = omega (arith, le, refused)
+refused_more limit m n faults.OutOfMemory le refused = tt
 
--- where what is found of one more master is refused, all are too many
-pub refused_found : (axis : Axis) (tech : Tech) (masters : List Master) (layouts : List Coords) (m : ℕ)
-    (found : List Found) (old now : List Edge) (fault : KeptFault) → m < length masters
-    → AreFoundOf axis tech most_edges true (base_of axis masters m) (master_at masters m) (layout_at layouts m) found
-    → now ≡ old ++ flat_map (kept_edges_at axis tech masters layouts) (range_with_len 0 m)
-    → RefusesFound found (length now) fault
-    → RefusesKept most_edges
-    (length (old ++ flat_map (kept_edges_at axis tech masters layouts) (master_numbers masters))) fault
-refused_found axis tech masters layouts m found old now faults.TooMany lt are is (inl there) =
-    let counted = edges_counted axis tech masters layouts m in
-    let many = many_found axis tech most_edges true (base_of axis masters m) (master_at masters m) (layout_at layouts m)
-    found are refl there in
-    one_too_many axis tech masters layouts m most_edges old now lt (omega arith) is (omega (arith, counted, many))
-refused_found axis tech masters layouts m found old now faults.TooMany lt are is (inr past) =
-    let counted = edges_counted axis tech masters layouts m in
-    let few = no_more_found axis tech most_edges true (base_of axis masters m) (master_at masters m)
-    (layout_at layouts m)
-    found are in
-    refused_so_far axis tech masters layouts m most_edges (kept_count axis tech masters layouts m) old now
-    faults.TooMany lt is refl (omega (arith, counted, few, past))
-refused_found axis tech masters layouts m found old now faults.OutOfMemory lt are is refused = tt
+-- what was found of master m, and what was added before
+module _ (axis : Axis) (tech : Tech) (masters : List Master) (layouts : List Coords) (found : List Found) (m : ℕ)
+    (one : Found) (are : AreFound axis tech masters layouts found) (lt : m < length found)
+    (is : one ≡ get_or found m one) where
+  abbrev piece : ℕ → List Edge
+  piece = kept_edges_at axis tech masters layouts
+
+  among : m < length masters
+  among = let one_each = are.one_each in omega (arith, one_each, lt)
+
+  own : IsFound (piece m) one
+  own = subst (IsFound (piece m)) (sym is) (are.each m one among)
+
+  -- the inequalities of its kept pairs, if they were not too many
+  pub found_edges : (edges : Vec Edge Global) → one ≡ Edges edges → edges.items ≡ piece m
+  found_edges edges at = subst (IsFound (piece m)) at own
+
+  module _ (old : List Edge) where
+    -- where they were, all are
+    pub refused_alone : one ≡ TooMany → most_edges < length (old ++ flat_map piece (master_numbers masters))
+    refused_alone at =
+        let many : most_edges < length (piece m) = subst (IsFound (piece m)) at own in
+        let within = pieces_within piece m (length masters) among in
+        let all = length-append old (flat_map piece (master_numbers masters)) in
+        omega (arith, many, within, all)
+
+    -- and where they are with those that were added before
+    pub refused_so_far : (now edges : List Edge) (fault : KeptFault) → now ≡ old ++ flat_map piece (range_with_len 0 m)
+        → edges ≡ piece m → RefusesKept most_edges (length now + length edges) fault
+        → RefusesKept most_edges (length (old ++ flat_map piece (master_numbers masters))) fault
+    refused_so_far now edges fault was same refused =
+        let within = pieces_within piece m (length masters) among in
+        let so_far = ap (λ es. length es) was ∙ length-append old (flat_map piece (range_with_len 0 m)) in
+        let more = ap (λ es. length es) same in
+        let all = length-append old (flat_map piece (master_numbers masters)) in
+        refused_more most_edges _ _ fault (omega (arith, within, so_far, more, all)) refused

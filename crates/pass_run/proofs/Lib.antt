@@ -11,8 +11,6 @@ pub mod Shape
 pub mod Solved
 pub mod Going
 pub mod Adding
-pub mod FoundEdges
-pub mod FoundAll
 pub mod Readied
 pub mod Texts
 pub mod Chain

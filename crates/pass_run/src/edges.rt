@@ -1,13 +1,12 @@
 //! The inequalities of a pass, and the constraint graph of them.
 
-ghost use Rattle.std.specs.Prelude.{◌≡◌, ◌+◌, ◌<◌, ◌≤◌, ◌↔◌, ◌++◌, ◌⊎◌, true, length, flat_map, All, OnOk, IfOk, IfErr};
-ghost use Rattle.std.specs.Prelude.{IsTrue, MatchOption};
+ghost use Rattle.std.specs.Prelude.{◌≡◌, ◌+◌, ◌≤◌, ◌++◌, length, flat_map, OnOk, IfOk, IfErr};
 ghost use Rattle.pitch_join.specs.{Masters.{ArePlanned, master_numbers}, Joined.{kept_edges_at, pruned_system}};
-ghost use Rattle.shadow_prune.specs.KeptFaults.{RefusesExactly, RefusesKept};
+ghost use Rattle.shadow_prune.specs.KeptFaults.{RefusesKept};
 ghost use Rattle.pass_run.specs.{Alike.most_edges, Passes.kept_counts, Laid.AreLaidOut, OneStep.IsListOver};
-ghost use Rattle.pass_run.specs.{OneStep.IsOrderAlong, Found.{AreFound, HasRoom, RefusesFound, edges_in}};
+ghost use Rattle.pass_run.specs.{OneStep.IsOrderAlong, Found.AreFound};
 
-use crate::finding::{Found, ROOM, found_in_all};
+use crate::finding::Found;
 use crate::laws::masters_are_lawful;
 use crate::ready::{Prepared, prepare};
 use cons_graph::{Edge, Graph, GraphFault, MAX_EDGES, Names};
@@ -19,12 +18,9 @@ use pitch_join::Joint;
 use plan_model::Plan;
 use rule_table::Tech;
 use shadow_prune::KeptFault;
-use std::alloc::{AllocError, Global};
+use std::alloc::Global;
 use std::thread::Threads;
 use sym_items::Coords;
-
-// How many ranges of the items of each master there are for each of several shares.
-const RANGES_PER_SHARE: u32 = 8;
 
 /// The list of a pass on an axis over some layouts: the inequalities of its system, but of the candidates only the
 /// kept pairs.
@@ -56,7 +52,7 @@ fn add_edges(joint: &mut Joint, edges: &[Edge]) -> Result<(), KeptFault>
     ensures edges { OnOk result (joint.new.edges.items ≡ joint.old.edges.items ++ edges.now) }
     ensures others { OnOk result (joint.new ≡ record joint.old { edges = joint.new.edges }) }
     ensures few { OnOk result (length joint.new.edges.items ≤ most_edges) }
-    ensures fault { IfErr result (RefusesExactly most_edges (length joint.old.edges.items + length edges.now)) }
+    ensures fault { IfErr result (RefusesKept most_edges (length joint.old.edges.items + length edges.now)) }
 {
     if edges.len() > MAX_EDGES || joint.edges.len() > MAX_EDGES - edges.len() {
         return Err(KeptFault::TooMany);
@@ -65,25 +61,7 @@ fn add_edges(joint: &mut Joint, edges: &[Edge]) -> Result<(), KeptFault>
     Ok(())
 }
 
-// Adds those that were found of a master, if there is room for them, and counts them.
-fn add_found(joint: &mut Joint, found: &[Found]) -> Result<u32, KeptFault>
-    ensures room { OnOk result (All HasRoom found.now) }
-    ensures edges { OnOk result
-        (joint.new.edges.items ≡ joint.old.edges.items ++ flat_map edges_in found.now) }
-    ensures others { OnOk result (joint.new ≡ record joint.old { edges = joint.new.edges }) }
-    ensures count { IfOk result (λ count. count ≡ length (flat_map edges_in found.now)) }
-    ensures fault { IfErr result (RefusesFound found.now (length joint.old.edges.items)) }
-{
-    let mut count = 0;
-    for one in found {
-        let edges = one.edges()?;
-        add_edges(joint, edges)?;
-        count += edges.len() as u32;
-    }
-    Ok(count)
-}
-
-// Adds those of all masters, in order, of each of which there are so many findings.
+// Adds those that were found of each master, in order, if there is room for them, and counts them.
 fn add_all_kept(
     joint: &mut Joint,
     alloc: Global,
@@ -92,11 +70,8 @@ fn add_all_kept(
     masters: &[Master],
     layouts: &[Coords],
     found: &[Found],
-    ranges: u32,
 ) -> Result<Vec<u32>, KeptFault>
-    requires few { length masters.now ≤ 256 }
-    requires ranges { ranges ≤ 512 }
-    requires found { AreFound axis tech.now most_edges true ranges masters.now layouts.now found.now }
+    requires found { AreFound axis tech.now masters.now layouts.now found.now }
     ensures edges { OnOk result
         (joint.new.edges.items ≡ joint.old.edges.items ++ flat_map
         (kept_edges_at axis tech.now masters.now layouts.now) (master_numbers masters.now)) }
@@ -110,10 +85,12 @@ fn add_all_kept(
     // Without this room all that was added before is copied, now and then.
     let _ = joint.edges.reserve(room_for(found));
     let mut counts = Vec::new(alloc);
-    for m in 0..masters.len() {
-        let start = m * ranges as usize;
-        let count = add_found(joint, &found[start..start + ranges as usize])?;
-        counts.push(count)?;
+    for one in found {
+        let Found::Edges(edges) = one else {
+            return Err(KeptFault::TooMany);
+        };
+        add_edges(joint, edges)?;
+        counts.push(edges.len() as u32)?;
     }
     Ok(counts)
 }
@@ -127,105 +104,12 @@ fn no_graph(fault: GraphFault) -> KeptFault
     }
 }
 
-// Whether there was room for all that was found.
-fn has_room(found: &[Found]) -> bool
-    ensures { IsTrue result ↔ All HasRoom found.now }
-{
-    for one in found {
-        if let Found::TooMany = one {
-            return false;
-        }
-    }
-    true
-}
-
-// Whether what was found tells all: it was asked for exactly, or there was room for it.
-fn tells_all(found: &[Found], exact: bool) -> bool
-    ensures { IsTrue result ↔ (IsTrue exact ⊎ All HasRoom found.now) }
-{
-    exact || has_room(found)
-}
-
-// The same as `ordered_list`, with the items of each master in so many ranges. Where the kept pairs are not asked for
-// exactly, and there was not this much room for those of a range, or not for all, there is no list.
-fn listed_by<H: Threads + Sync, G: Gate>(
-    rt: &H,
-    alloc: Global,
-    gate: &G,
-    axis: Axis,
-    tech: &Tech,
-    plan: &Plan,
-    masters: &[Master],
-    layouts: &[Coords],
-    ranges: u32,
-    room: u32,
-    exact: bool,
-    split: u32,
-) -> Result<Option<(Vec<u32>, Listed)>, KeptFault>
-    requires planned { ArePlanned tech.now plan.now masters.now }
-    requires laid { AreLaidOut tech.now masters.now layouts.now }
-    requires ranges { (1 ≤ ranges) × (ranges ≤ 512) }
-    requires room { IsTrue exact → room ≡ most_edges }
-    requires split { (1 ≤ split) × (split ≤ 64) }
-    ensures listed { IfOk result (λ found. MatchOption found (IsTrue exact → ⊥)
-        (λ both. IsOrderAlong axis layouts.now both.0.items
-        × IsListOver axis tech.now plan.now masters.now layouts.now both.1)) }
-    ensures fault { IfErr result
-        (RefusesKept most_edges (length (pruned_system axis tech.now plan.now masters.now layouts.now))) }
-{
-    masters_are_lawful(tech, masters);
-    let Prepared {
-        order,
-        mut joint,
-        searches,
-    } = prepare(rt, alloc, axis, tech, plan, masters, layouts, ranges, split)?;
-    let found = found_in_all(
-        rt,
-        alloc,
-        gate,
-        axis,
-        tech,
-        joint.base.as_slice(),
-        masters,
-        layouts,
-        &searches,
-        ranges,
-        room,
-        exact,
-        split,
-    )?;
-    if !tells_all(&found, exact) {
-        return Ok(None);
-    }
-    let kept = add_all_kept(
-        &mut joint, alloc, axis, tech, masters, layouts, &found, ranges,
-    )?;
-    let Joint {
-        vars,
-        base,
-        edges,
-        names,
-    } = joint;
-    match Graph::new(vars, edges) {
-        Ok(graph) => Ok(Some((
-            order,
-            Listed {
-                graph,
-                kept,
-                base,
-                names,
-            },
-        ))),
-        Err(fault) => Err(no_graph(fault)),
-    }
-}
-
 /// The joint variables in order of their values in some layouts, and the list of a pass over these: what holds
 /// whatever the layouts are, and the inequalities of the kept pairs of each master. The pairs of a master are found
-/// once, whatever the number of its instances, and in as many shares as `split` says, each of which passes the gate.
-/// Several shares search ranges of items, so that they end at about the same time; where these have very many pairs,
-/// the masters are searched anew, each as a whole, and the gate is passed again. It is refused where it has more than
-/// 4,194,304 inequalities, and for want of memory.
+/// once, whatever the number of its instances. There are as many shares as `split` says, each of which passes the gate
+/// once, as it starts: they make the order, then what holds whatever the layouts, then find the pairs of one master
+/// after another, each share the next ones that no other has taken. It is refused where it has more than 4,194,304
+/// inequalities, and for want of memory.
 pub fn ordered_list<H: Threads + Sync, G: Gate>(
     rt: &H,
     alloc: Global,
@@ -245,19 +129,30 @@ pub fn ordered_list<H: Threads + Sync, G: Gate>(
     ensures fault { IfErr result
         (RefusesKept most_edges (length (pruned_system axis tech.now plan.now masters.now layouts.now))) }
 {
-    if split > 1 {
-        let (ranges, room) = (RANGES_PER_SHARE * split, ROOM / split);
-        if let Some(both) = listed_by(
-            rt, alloc, gate, axis, tech, plan, masters, layouts, ranges, room, false, split,
-        )? {
-            return Ok(both);
-        }
-    }
-    match listed_by(
-        rt, alloc, gate, axis, tech, plan, masters, layouts, 1, ROOM, true, split,
-    )? {
-        Some(both) => Ok(both),
-        None => unreachable!(),
+    masters_are_lawful(tech, masters);
+    let Prepared {
+        order,
+        mut joint,
+        found,
+    } = prepare(rt, alloc, gate, axis, tech, plan, masters, layouts, split)?;
+    let kept = add_all_kept(&mut joint, alloc, axis, tech, masters, layouts, &found)?;
+    let Joint {
+        vars,
+        base,
+        edges,
+        names,
+    } = joint;
+    match Graph::new(vars, edges) {
+        Ok(graph) => Ok((
+            order,
+            Listed {
+                graph,
+                kept,
+                base,
+                names,
+            },
+        )),
+        Err(fault) => Err(no_graph(fault)),
     }
 }
 

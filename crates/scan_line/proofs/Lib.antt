@@ -6,15 +6,8 @@ mod NearAcross
 mod Parts
 mod Scanned
 mod Sorted
-pub mod Spacings
-pub mod CoveringItems
-pub mod Reach
-pub mod RunItems
-pub mod PairRuns
-pub mod VisibleCandidates
-pub mod SortedPairs
-pub mod FirstItems
-pub mod HiddenItems
-pub mod Gathered
-pub mod KindItems
-pub mod Passing
+mod Spacings
+mod Reach
+mod PairRuns
+mod SortedPairs
+mod FirstItems

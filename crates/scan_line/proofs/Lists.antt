@@ -1,7 +1,7 @@
 -- Some lists, and how they grow.
-use Rattle.std.proofs.Common.{◌≡◌, ◌≢◌, ℕ, ◌+◌, ◌<◌, false, cond, leb, ltb, ◌&&◌, List, [], ◌∷◌, ◌++◌, length, map}
+use Rattle.std.proofs.Common.{◌≡◌, ◌≢◌, ℕ, ◌<◌, cond, leb, ltb, ◌&&◌, List, [], ◌∷◌, ◌++◌, length, map}
 use Rattle.std.proofs.Common.{get_or, set, Vec, Global, sym, ap, ◌∙◌, arith, get_or-set_same, get_or-set_other}
-use Rattle.std.proofs.lemmas.{Bool.Decides.nat_tests, List.{map-set, length-map, get_or-map}}
+use Rattle.std.proofs.lemmas.{List.{map-set, length-map, get_or-map}}
 use Rattle.scan_line.specs.Levels.{list_at}
 
 -- one of them is replaced
@@ -20,17 +20,11 @@ list_other lists t u v ne =
     ap (λ (xs : List (List ℕ)). get_or xs u []) (map-set items lists t v)
     ∙ get_or-set_other (map items lists) t u v.items [] ne
 
-pub list_read : {A : Type 0} (lists : List (Vec A Global)) (t : ℕ) (d : Vec A Global) → t < length lists
+pub list_read : (lists : List (Vec ℕ Global)) (t : ℕ) (d : Vec ℕ Global) → t < length lists
     → (get_or lists t d).items ≡ list_at lists t
-list_read {A} lists t d lt = sym (get_or-map (λ (x : Vec A Global). x.items) lists t d [] lt)
+list_read lists t d lt = sym (get_or-map (λ (x : Vec ℕ Global). x.items) lists t d [] lt)
 
 -- an item is put at the end of those from a first one up to another
 pub record AreGrown (first t item : ℕ) (old new : List (Vec ℕ Global)) : Type 0 where
   pub counted : length new ≡ length old
   pub each : (u : ℕ) → list_at new u ≡ list_at old u ++ cond (leb first u && ltb u t) (item ∷ []) []
-
-none_below : (first u : ℕ) → (leb first u && ltb u first) ≡ false
-none_below first u = grind (arith, nat_tests)
-
-same_test : (first t u : ℕ) → u ≢ t → (leb first u && ltb u t) ≡ (leb first u && ltb u (t + 1))
-same_test first t u ne = grind (arith, nat_tests)

@@ -26,6 +26,13 @@ read_at f g xs ys i d e lt is =
     sym (get_or-map g ys i e (g e) (omega (arith, counted, lt)))
     ∙ (ap (λ zs. get_or zs i (g e)) is ∙ get_or-map f xs i d (g e) lt)
 
+-- each item has its place
+pub places_len : (axis : Axis) (c : Coords) (items : List Item) (order : List ℕ) (spans : List Span)
+    → ArePlaces axis c items order spans → length spans ≡ length order
+places_len axis c items order spans are =
+    sym (length-map spans (λ t. t.lo))
+    ∙ (ap length are.lows ∙ length-map order (λ k. (sides_at axis c (item_at items k)).bottom))
+
 -- the place of an item stands where the item does
 place_at : (axis : Axis) (c : Coords) (items : List Item) (order : List ℕ) (spans : List Span) (i : ℕ) (d : Span)
     → i < length order → ArePlaces axis c items order spans

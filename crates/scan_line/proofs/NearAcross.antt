@@ -9,8 +9,8 @@ use Rattle.rule_table.specs.declared.classes.Class.{Class}
 use Rattle.sym_items.specs.{declared.items.{Item.Item, Coords.Coords}, Sides.{Sides, gap_on_y}}
 use Rattle.pair_rules.specs.{Bound.item_at, Candidates.sides_at}
 use Rattle.scan_line.specs.declared.{stretches.Stretches.Stretches, level.Level.Level, group.Group.Group}
-use Rattle.scan_line.specs.{declared.runs.Line.Line, Stretches.{height_above, stretch_of}, Levels.meets_lane}
-use Rattle.scan_line.specs.{Levels.{IsLevelOf, IsLaneOver}, Lanes.IsListNear, Order.ComesBefore, Groups.IsGroupOf}
+use Rattle.scan_line.specs.{Stretches.{height_above, stretch_of}, Levels.{meets_lane, IsLevelOf, IsLaneOver}}
+use Rattle.scan_line.specs.{Lanes.IsListNear, Order.ComesBefore, Groups.IsGroupOf}
 
 -- a higher place lies in the same stretch or a later one
 
@@ -68,15 +68,15 @@ order_near axis c items class group b reach g =
     record { in_range = g.in_range; in_order = g.in_order; near = λ i lt same _. g.each i lt same }
 
 pub lane_near : (axis : Axis) (c : Coords) (items : List Item) (class : Class) (group : Group) (level : Level)
-    (b : Sides) (reach low high : ℤ) (line : Line) → IsGroupOf axis c items class group
+    (b : Sides) (reach low high : ℤ) (list : List ℕ) → IsGroupOf axis c items class group
     → IsLevelOf axis c items group.order.items level
-    → IsLaneOver level low high line → low ≡ (b.bottom -ℤ reach) → high ≡ (b.top +ℤ reach)
-    → IsListNear axis c items class b reach line.items.now
-lane_near axis c items class group level b reach low high line g made over low_is high_is =
+    → IsLaneOver level low high list → low ≡ (b.bottom -ℤ reach) → high ≡ (b.top +ℤ reach)
+    → IsListNear axis c items class b reach list
+lane_near axis c items class group level b reach low high list g made over low_is high_is =
     let order = group.order.items in
     let s = level.stretches in
     let meets = λ (i : ℕ). meets_lane s over.lane (sides_at axis c (item_at items i)) in
-    let is : line.items.now ≡ filter meets order = over.list_is ∙ made.lanes over.lane over.among in
+    let is : list ≡ filter meets order = over.list_is ∙ made.lanes over.lane over.among in
     let P : List ℕ → Type 0 = λ l. IsListNear axis c items class b reach l in
     subst P (sym is) (record {
       in_range = All-filter meets (λ i. i < length items) order g.in_range;

@@ -1,8 +1,8 @@
 -- The candidates that end at one item, in the order of any list of items.
-use Rattle.std.proofs.Common.{◌≡◌, ℕ, zero, suc, ◌<◌, ℤ, List, [], ◌∷◌, ◌++◌, length, get_or, Option, Some, None, refl}
-use Rattle.std.proofs.Common.{sym, ◌∙◌, subst, zero-add, arith}
-use Rattle.std.proofs.lemmas.List.{FromFn.{length-range_with_len, get_or-range_with_len}, Elements.{All-nil, All-cons}}
-use Rattle.std.proofs.lemmas.List.{Elements.All-contains, Kept.AllPairs-cons}
+use Rattle.std.proofs.Common.{◌≡◌, ℕ, zero, suc, ◌+◌, ◌<◌, ℤ, List, [], ◌∷◌, ◌++◌, length, get_or, take, Option, Some}
+use Rattle.std.proofs.Common.{None, refl, sym, ap, ◌∙◌, subst, zero-add, arith}
+use Rattle.std.proofs.lemmas.List.{flat_map_more, take_more, FromFn.{length-range_with_len, get_or-range_with_len}}
+use Rattle.std.proofs.lemmas.List.{Elements.{All-nil, All-cons, All-contains}, Kept.AllPairs-cons}
 use Rattle.std.specs.List.{All, AllPairs, Any, Contains, flat_map, range_with_len}
 use Rattle.list_facts.proofs.Some.{any_flat_map}
 use Rattle.lam_geom.specs.declared.boxes.Axis.{Axis}
@@ -58,6 +58,16 @@ contains_pair_of axis t c items j xs i s among faces =
     (λ x same. subst (λ (y : ℕ). Any (λ (q : Pair). q ≡ p) (f y)) (sym same) (here.0, p, here.1, here.2, refl))
     (among.0, i, among.1, among.2, refl) in
     subst (Contains (flat_map f xs)) found.4 (found.0, found.2, found.3)
+
+-- one item more: its pair is added
+pub one_more : (axis : Axis) (t : Tech) (c : Coords) (items : List Item) (j : ℕ) (xs : List ℕ) (n i : ℕ)
+    (now next : List Pair) → n < length xs → i ≡ get_or xs n i
+    → now ≡ pairs_of axis t c items j (take n xs) → next ≡ now ++ pairs_at axis t c items j i
+    → next ≡ pairs_of axis t c items j (take (n + 1) xs)
+one_more axis t c items j xs n i now next lt is was added =
+    let f = pairs_at axis t c items j in
+    let more : take (n + 1) xs ≡ take n xs ++ i ∷ [] = take_more xs n i lt ∙ ap (λ k. take n xs ++ k ∷ []) (sym is) in
+    added ∙ (ap (λ ps. ps ++ f i) was ∙ (flat_map_more f [] (take n xs) i ∙ ap (flat_map f) (sym more)))
 
 -- ---- all candidates
 

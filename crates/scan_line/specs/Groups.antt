@@ -4,7 +4,7 @@ use Rattle.lam_geom.specs.declared.boxes.Axis.{Axis}
 use Rattle.rule_table.specs.declared.classes.Class.{Class, TheVariants.{M, P, Dc, Dm, C, I, G, B}}
 use Rattle.sym_items.specs.declared.items.{Item.Item, Coords.Coords}
 use Rattle.pair_rules.specs.Bound.{item_at}
-use Rattle.scan_line.specs.{declared.group.Group.Group, Levels.IsLevelOf, Runs.HasRuns, Order.ComesBefore}
+use Rattle.scan_line.specs.{declared.group.Group.Group, Levels.IsLevelOf, Order.ComesBefore}
 
 -- the number of the group of a class: metal, diffusion, poly with the diffusion of the mask, and what keeps off
 -- channels
@@ -34,5 +34,4 @@ pub record IsGroupOf (axis : Axis) (c : Coords) (items : List Item) (class : Cla
   pub in_range : All (λ i. i < length items) group.order.items
   pub in_order : AllPairs (ComesBefore axis c items) group.order.items
   pub each : (i : ℕ) → i < length items → AreOfOneGroup (item_at items i).class class → Contains group.order.items i
-  pub runs : HasRuns axis c items group.order.items group.runs.items
   pub levels : All (IsLevelOf axis c items group.order.items) group.levels.items

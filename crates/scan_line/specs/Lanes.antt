@@ -5,7 +5,7 @@ use Rattle.rule_table.specs.declared.classes.Class.{Class, TheVariants.{M, P, Dc
 use Rattle.sym_items.specs.{declared.items.{Item.Item, Coords.Coords}, Sides.{Sides, gap_on_y}}
 use Rattle.pair_rules.specs.{Bound.item_at, Candidates.sides_at}
 use Rattle.scan_line.specs.{declared.lanes.Lanes.Lanes, Begins.begins_of, Groups.{AreOfOneGroup, IsGroupOf}}
-use Rattle.scan_line.specs.{Kinds.AreKinds, Order.{ComesBefore, IsScanOrder}}
+use Rattle.scan_line.specs.Order.{ComesBefore, IsScanOrder}
 
 -- the lanes were made of these items in this layout
 pub record AreLanesOf (axis : Axis) (c : Coords) (items : List Item) (lanes : Lanes) : Type 0 where
@@ -15,7 +15,6 @@ pub record AreLanesOf (axis : Axis) (c : Coords) (items : List Item) (lanes : La
   pub diffusion : IsGroupOf axis c items Dc lanes.diffusion
   pub poly : IsGroupOf axis c items P lanes.poly
   pub channels : IsGroupOf axis c items C lanes.channels
-  pub kinds : AreKinds axis c items lanes.kinds.items
 
 -- a list of items in the order of the scan that has all of the group of a class that lie nearer to a box than a reach
 pub record IsListNear (axis : Axis) (c : Coords) (items : List Item) (class : Class) (b : Sides) (reach : ℤ)

@@ -4,11 +4,10 @@ use Rattle.std.specs.{Prelude.slice_index_or, declared.alloc.Global.Global}
 use Rattle.lam_geom.specs.declared.boxes.{Axis.Axis, Span.Span}
 use Rattle.sym_items.specs.{declared.items.{Item.Item, Coords.Coords}, Sides.Sides}
 use Rattle.pair_rules.specs.{Bound.item_at, Candidates.sides_at}
-use Rattle.scan_line.specs.declared.{stretches.Stretches.Stretches, level.Level.Level, runs.{Line.Line, Run.Run}}
-use Rattle.scan_line.specs.{Runs.HasRuns, Stretches.{stretch_of, IsCut}}
+use Rattle.scan_line.specs.{declared.{stretches.Stretches.Stretches, level.Level.Level}, Stretches.{stretch_of, IsCut}}
 
 -- the list of a number
-abbrev pub list_at : {A : Type 0} → List (Vec A Global) → ℕ → List A
+abbrev pub list_at : List (Vec ℕ Global) → ℕ → List ℕ
 list_at lists t = slice_index_or (map (λ v. v.items) lists) t []
 
 -- a box meets lane t, which is stretch t and the next: it begins in the next or lower, and ends in t or higher
@@ -24,30 +23,21 @@ pub record ArePlaces (axis : Axis) (c : Coords) (items : List Item) (order : Lis
   pub lows : map (λ s. s.lo) spans ≡ map (λ k. (sides_at axis c (item_at items k)).bottom) order
   pub highs : map (λ s. s.hi) spans ≡ map (λ k. (sides_at axis c (item_at items k)).top) order
 
--- the runs of each of some lists
-pub record AreRunsOfEach (axis : Axis) (c : Coords) (items : List Item) (lists : List (Vec ℕ Global))
-    (runs : List (Vec Run Global)) : Type 0 where
-  pub counted : length runs ≡ length lists
-  pub each : (t : ℕ) → t < length lists → HasRuns axis c items (list_at lists t) (list_at runs t)
-
--- a level has a list for each of its stretches, and as many lists of runs
+-- a level has a list for each of its stretches
 pub record IsLevel (level : Level) : Type 0 where
   pub cut : IsCut level.stretches
   pub counted : length level.lists.items ≡ level.stretches.last + 1
-  pub as_many : length level.runs.items ≡ length level.lists.items
 
 -- the list of each lane has the items that meet it, in order
 pub record IsLevelOf (axis : Axis) (c : Coords) (items : List Item) (order : List ℕ) (level : Level) : Type 0 where
   pub level_is : IsLevel level
   pub lanes : (t : ℕ) → t < length level.lists.items
       → list_at level.lists.items t ≡ lane_of axis c items level.stretches order t
-  pub runs : AreRunsOfEach axis c items level.lists.items level.runs.items
 
--- a line is that of the lane that holds all between two places
-pub record IsLaneOver (level : Level) (low high : ℤ) (line : Line) : Type 0 where
+-- a list is that of the lane that holds all between two places
+pub record IsLaneOver (level : Level) (low high : ℤ) (list : List ℕ) : Type 0 where
   pub lane : ℕ
   pub among : lane < length level.lists.items
-  pub list_is : line.items.now ≡ list_at level.lists.items lane
-  pub runs_are : line.runs.now ≡ list_at level.runs.items lane
+  pub list_is : list ≡ list_at level.lists.items lane
   pub low_in : stretch_of level.stretches low ≡ lane
   pub high_in : stretch_of level.stretches high ≤ lane + 1

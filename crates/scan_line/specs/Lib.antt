@@ -1,13 +1,8 @@
 pub mod Order
 pub mod Begins
 pub mod Stretches
-pub mod Runs
 pub mod Levels
 pub mod Groups
 pub mod Lanes
 pub mod Lines
-pub mod Cover
-pub mod Visible
 pub mod Scan
-pub mod Hiding
-pub mod Kinds

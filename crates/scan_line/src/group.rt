@@ -3,11 +3,10 @@
 ghost use Rattle.std.specs.Prelude.{◌≡◌, ◌<◌, ◌^◌, pos, ◌≤ℤ◌, ◌==◌, List, length, filter, All, IfOk};
 ghost use Rattle.sym_items.specs.{declared.items.Item.Item, Boxes.HasBox};
 ghost use Rattle.pair_rules.specs.{Bound.item_at, Candidates.sides_at};
-ghost use Rattle.scan_line.specs.{Order.IsScanOrder, Levels.{ArePlaces, IsLevelOf}, Lanes.IsListNear, Runs.HasRuns};
+ghost use Rattle.scan_line.specs.{Order.IsScanOrder, Levels.{ArePlaces, IsLevelOf}, Lanes.IsListNear};
 ghost use Rattle.scan_line.specs.Groups.{group_of, is_of_group, classes_of, IsGroupOf};
 
 use crate::level::Level;
-use crate::runs::{Line, Run, runs_of};
 use crate::stretches::Stretches;
 use lam_geom::{Axis, Span};
 use rule_table::Class;
@@ -18,7 +17,6 @@ use sym_items::{Coords, Item, box_along};
 #[derive(Drop)]
 pub struct Group {
     order: Vec<u32>,
-    runs: Vec<Run>,
     levels: Vec<Level>,
 }
 
@@ -46,17 +44,15 @@ impl Group {
         ensures { IfOk result (IsGroupOf axis coords.now items.now class) }
     {
         let members = members_of(alloc, class, order, classes)?;
-        let runs = runs_of(alloc, axis, items, coords, &members)?;
         let levels = levels_of(alloc, &members, axis, items, coords)?;
         Ok(Group {
             order: members,
-            runs,
             levels,
         })
     }
 
-    /// A line of items of the group of item `j` in the order of the scan, among them all that lie nearer to `j`
-    /// than `reach` across the axis.
+    /// Items of the group of item `j` in the order of the scan, among them all that lie nearer to `j` than `reach`
+    /// across the axis.
     pub fn list_near(
         &self,
         axis: Axis,
@@ -64,26 +60,22 @@ impl Group {
         coords: &Coords,
         reach: i64,
         j: u32,
-    ) -> Line<'_>
+    ) -> &[u32]
         requires boxes { All (HasBox coords.now) items.now }
         requires group { IsGroupOf axis coords.now items.now (item_at items.now j).class self.now }
         requires among { j < length items.now }
         requires reach { (pos 0 ≤ℤ reach) × (reach ≤ℤ pos 4096) }
-        ensures near { IsListNear axis coords.now items.now (item_at items.now j).class (sides_at axis
-            coords.now (item_at items.now j)) reach result.items.now }
-        ensures runs { HasRuns axis coords.now items.now result.items.now result.runs.now }
+        ensures { IsListNear axis coords.now items.now (item_at items.now j).class (sides_at axis
+            coords.now (item_at items.now j)) reach result.now }
     {
         let across = box_along(axis, &items[j as usize], coords).y;
         let (low, high) = (across.lo - reach, across.hi + reach);
         for level in &self.levels {
-            if let Some(line) = level.lane_over(low, high) {
-                return line;
+            if let Some(list) = level.lane_over(low, high) {
+                return list;
             }
         }
-        Line {
-            items: &self.order,
-            runs: &self.runs,
-        }
+        &self.order
     }
 }
 
@@ -155,7 +147,7 @@ fn levels_of(
     let mut levels = Vec::with_capacity(alloc, LEVELS)?;
     let mut stretches = Stretches::across(&across);
     for _ in 0..LEVELS {
-        levels.push(Level::new(alloc, stretches, order, &across, axis, items, coords)?)?;
+        levels.push(Level::new(alloc, stretches, order, &across)?)?;
         stretches = stretches.longer(LONGER);
     }
     Ok(levels)

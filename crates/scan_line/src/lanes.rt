@@ -4,12 +4,10 @@ ghost use Rattle.std.specs.Prelude.{◌≡◌, ℕ, ◌<◌, ◌^◌, ℤ, pos, 
 ghost use Rattle.lam_geom.specs.declared.boxes.Axis.{Axis};
 ghost use Rattle.sym_items.specs.{declared.items.{Item.Item, Coords.Coords}, Boxes.HasBox, Sides.gap_on_y};
 ghost use Rattle.pair_rules.specs.{Bound.item_at, Candidates.sides_at};
-ghost use Rattle.scan_line.specs.{Order.{ComesBefore, IsScanOrder}, Lanes.AreLanesOf};
-ghost use Rattle.scan_line.specs.{Runs.HasRuns, Groups.{AreOfOneGroup, IsGroupOf}, Kinds.AreKinds};
+ghost use Rattle.scan_line.specs.{Order.{ComesBefore, IsScanOrder}, Lanes.AreLanesOf, Groups.AreOfOneGroup};
+ghost use Rattle.scan_line.specs.Groups.{IsGroupOf};
 
 use crate::group::{Group, classes_of};
-use crate::kinds::kinds_of;
-use crate::runs::Line;
 use crate::sorting::{begins_of, part_before, sort_order};
 use lam_geom::Axis;
 use rule_table::Class;
@@ -25,8 +23,6 @@ pub struct Lanes {
     diffusion: Group,
     poly: Group,
     channels: Group,
-    // For each item the number of one of its kind.
-    kinds: Vec<u32>,
 }
 
 impl Lanes {
@@ -49,7 +45,6 @@ impl Lanes {
         let diffusion = Group::new(alloc, Class::Dc, &order, &classes, axis, items, coords)?;
         let poly = Group::new(alloc, Class::P, &order, &classes, axis, items, coords)?;
         let channels = Group::new(alloc, Class::C, &order, &classes, axis, items, coords)?;
-        let kinds = kinds_of(alloc, axis, items, coords)?;
         Ok(Lanes {
             order,
             begins,
@@ -57,7 +52,6 @@ impl Lanes {
             diffusion,
             poly,
             channels,
-            kinds,
         })
     }
 
@@ -79,36 +73,23 @@ impl Lanes {
         coords: &Coords,
         reach: i64,
         j: u32,
-    ) -> Line<'_>
+    ) -> &[u32]
         requires few { length items.now < 2 ^ 32 }
         requires boxes { All (HasBox coords.now) items.now }
         requires lanes { AreLanesOf axis coords.now items.now self.now }
         requires among { j < length items.now }
         requires reach { (pos 0 ≤ℤ reach) × (reach ≤ℤ pos 4096) }
-        ensures in_range { All (λ i. i < length items.now) result.items.now }
-        ensures in_order { AllPairs (ComesBefore axis coords.now items.now) result.items.now }
-        ensures before { All (λ i. ComesBefore axis coords.now items.now i j) result.items.now }
+        ensures in_range { All (λ i. i < length items.now) result.now }
+        ensures in_order { AllPairs (ComesBefore axis coords.now items.now) result.now }
+        ensures before { All (λ i. ComesBefore axis coords.now items.now i j) result.now }
         ensures all { (i : ℕ) → i < length items.now → AreOfOneGroup (item_at items.now i).class (item_at
             items.now j).class → ComesBefore axis coords.now items.now i j
             → gap_on_y (sides_at axis coords.now (item_at items.now i)) (sides_at axis coords.now (item_at
-            items.now j)) <ℤ reach → Contains result.items.now i }
-        ensures runs { HasRuns axis coords.now items.now result.items.now result.runs.now }
+            items.now j)) <ℤ reach → Contains result.now i }
     {
         let group = self.group(items[j as usize].class);
-        let line = group.list_near(axis, items, coords, reach, j);
-        let part = part_before(&self.begins, line.items, j);
-        Line {
-            items: part,
-            runs: &line.runs[..part.len()],
-        }
-    }
-
-    /// For each item the number of one of its kind.
-    pub(crate) fn kinds(&self) -> &[u32]
-        ensures { (axis : Axis) (coords : Coords) (items : List Item) → AreLanesOf axis coords items self.now
-            → AreKinds axis coords items result.now }
-    {
-        &self.kinds
+        let list = group.list_near(axis, items, coords, reach, j);
+        part_before(&self.begins, list, j)
     }
 
     // The group of a class.

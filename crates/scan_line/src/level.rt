@@ -1,16 +1,15 @@
 //! Lanes over stretches of one length.
 
 ghost use Rattle.std.specs.Prelude.{◌≡◌, ℕ, ◌-◌, ◌<◌, ◌≤◌, ◌≢◌, [], ◌∷◌, ◌++◌, ◌&&◌, nat_le, if◌then◌else◌, length};
-ghost use Rattle.std.specs.Prelude.{All, OnOk, IfOk, IfSome};
-ghost use Rattle.sym_items.specs.Boxes.{HasBox};
+ghost use Rattle.std.specs.Prelude.{List, OnOk, IfOk, IfSome};
+ghost use Rattle.lam_geom.specs.declared.boxes.Axis.{Axis};
+ghost use Rattle.sym_items.specs.declared.items.{Item.Item, Coords.Coords};
 ghost use Rattle.scan_line.specs.Stretches.{stretch_of, IsCut};
-ghost use Rattle.scan_line.specs.Levels.{list_at, ArePlaces, AreRunsOfEach, IsLevel, IsLevelOf, IsLaneOver};
+ghost use Rattle.scan_line.specs.Levels.{list_at, ArePlaces, IsLevel, IsLevelOf, IsLaneOver};
 
-use crate::runs::{Line, Run, runs_of};
 use crate::stretches::Stretches;
-use lam_geom::{Axis, Span};
+use lam_geom::Span;
 use std::alloc::{AllocError, Global};
-use sym_items::{Coords, Item};
 
 /// For each two neighbouring stretches a lane: a list of the items that meet one of them, in the order of a
 /// scan. The lane of a number is that stretch and the next.
@@ -18,7 +17,6 @@ use sym_items::{Coords, Item};
 pub struct Level {
     stretches: Stretches,
     lists: Vec<Vec<u32>>,
-    runs: Vec<Vec<Run>>,
 }
 
 impl Level {
@@ -30,62 +28,31 @@ impl Level {
         stretches: Stretches,
         order: &[u32],
         across: &[Span],
-        axis: Axis,
-        items: &[Item],
-        coords: &Coords,
     ) -> Result<Level, AllocError>
         requires cut { IsCut stretches }
-        requires boxes { All (HasBox coords.now) items.now }
-        requires among { All (λ k. k < length items.now) order.now }
-        requires across { ArePlaces axis coords.now items.now order.now across.now }
-        ensures { IfOk result (IsLevelOf axis coords.now items.now order.now) }
+        requires each { length across.now ≡ length order.now }
+        ensures { IfOk result (λ level. (axis : Axis) (coords : Coords) (items : List Item)
+            → ArePlaces axis coords items order.now across.now → IsLevelOf axis coords items order.now level) }
     {
         let mut lists = empty_lists(alloc, stretches.count())?;
         for (p, i) in order.iter().enumerate() {
             let (first, last) = lanes_met(&stretches, across[p]);
             push_to_each(&mut lists, first, last, *i)?;
         }
-        let runs = runs_of_each(alloc, axis, items, coords, &lists)?;
-        Ok(Level {
-            stretches,
-            lists,
-            runs,
-        })
+        Ok(Level { stretches, lists })
     }
 
     /// The list of the lane that holds all between two places, if there is one.
-    pub fn lane_over(&self, low: i64, high: i64) -> Option<Line<'_>>
+    pub fn lane_over(&self, low: i64, high: i64) -> Option<&[u32]>
         requires { IsLevel self.now }
-        ensures { IfSome result (IsLaneOver self.now low high) }
+        ensures { IfSome result (λ list. IsLaneOver self.now low high list.now) }
     {
         let lane = self.stretches.number_of(low);
         if self.stretches.number_of(high) > lane + 1 {
             return None;
         }
-        Some(Line {
-            items: self.lists[lane].as_slice(),
-            runs: self.runs[lane].as_slice(),
-        })
+        Some(self.lists[lane].as_slice())
     }
-}
-
-// The runs of each of some lists.
-fn runs_of_each(
-    alloc: Global,
-    axis: Axis,
-    items: &[Item],
-    coords: &Coords,
-    lists: &[Vec<u32>],
-) -> Result<Vec<Vec<Run>>, AllocError>
-    requires boxes { All (HasBox coords.now) items.now }
-    requires among { (t : ℕ) → t < length lists.now → All (λ k. k < length items.now) (list_at lists.now t) }
-    ensures { IfOk result (λ runs. AreRunsOfEach axis coords.now items.now lists.now runs.items) }
-{
-    let mut runs = Vec::with_capacity(alloc, lists.len())?;
-    for list in lists {
-        runs.push(runs_of(alloc, axis, items, coords, list)?)?;
-    }
-    Ok(runs)
 }
 
 // So many lists with nothing in them.

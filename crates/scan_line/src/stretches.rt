@@ -1,6 +1,6 @@
 //! Stretches: the cut of a layout across the axis of a scan.
 
-ghost use Rattle.std.specs.Prelude.{◌≡◌, ◌+◌, ◌^◌, ◌<◌};
+ghost use Rattle.std.specs.Prelude.{◌≡◌, ◌+◌, ◌<◌};
 ghost use Rattle.scan_line.specs.Stretches.{stretch_of, IsCut};
 
 use lam_geom::Span;

@@ -1,6 +1,3 @@
-pub mod Between
 pub mod KeptFaults
-pub mod VisiblePairs
-pub mod Runs
-pub mod Open
-pub mod Blocks
+pub mod KeptNumbers
+pub mod Families

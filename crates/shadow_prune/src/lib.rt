@@ -1,13 +1,13 @@
-//! Which candidates have to be listed: those that no item shadows.
+//! The kept pairs of a clean layout, found without a walk over all candidates.
 //!
-//! A candidate (i, j) is shadowed where some item k stands between, so that (i, k) and (k, j) are candidates
-//! whose spacings, with the least extent of k, are at least that of (i, j). For the layer above: `kept` gives
-//! exactly the candidates that no item shadows and whose ends lie on different variables. Lengths are in u.
+//! Whether two items are a candidate, and which items shadow it, is a matter of one family of classes: metal, diffusion
+//! by the drawn rule, poly with the diffusion of the mask, cuts with channels, implants with channels, and windows
+//! with channels. Seen from the side the items of a family are bars in a row, in order of where they begin: two of
+//! them are a candidate where their bars face each other, and kept where these see each other. So a sweep across the
+//! axis finds the kept pairs of each family.
 #![tactic(auto)]
 
-mod blocks;
+mod families;
 mod keeping;
-mod runs;
-mod shadowing;
 
-pub use keeping::{KeptFault, kept, kept_between};
+pub use keeping::{KeptFault, kept};

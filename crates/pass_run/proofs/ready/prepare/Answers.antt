@@ -5,12 +5,8 @@ use Rattle.pass_run.specs.{declared.ready.Ready.Ready, Ready.IsReady}
 use Rattle.pass_run.proofs.{Readied.{all_prepared, of_kind}, ready.prepare.{Given.Over, Goals.In_ok-made}}
 use Rattle.pass_run.proofs.ready.prepare.Goals as goal
 
-pub map_numbers-requires-clause-accepts : goal.map_numbers-requires-clause-accepts
-map_numbers-requires-clause-accepts g c = λ κs le k lt p is.
-    (c.requires.planned, c.requires.laid, c.requires.ranges, omega (arith, lt, is))
-
 abbrev Is : (g : Over) → In_ok-made g → ℕ → Ready → Type 0
-Is g c = IsReady c.args.axis c.args.tech.now c.args.plan.now c.args.masters.now c.args.layouts.now c.args.ranges
+Is g c = IsReady c.args.axis c.args.tech.now c.args.plan.now c.args.masters.now c.args.layouts.now
 
 -- what was made, number by number
 each_is : (g : Over) (c : In_ok-made g) (k : ℕ) (d : Ready) → k < length c.args.masters.now + 2
@@ -24,12 +20,12 @@ pub taken_apart-requires-clause-each : goal.taken_apart-requires-clause-each
 taken_apart-requires-clause-each g c = λ k d lt.
     let at = (goal.at.taken_apart-requires-clause-each g c).In_ok-made in
     let counted = made_counted g at in
-    of_kind c.args.axis c.args.tech.now c.args.plan.now c.args.masters.now c.args.layouts.now c.args.ranges k _
+    of_kind c.args.axis c.args.tech.now c.args.plan.now c.args.masters.now c.args.layouts.now k _
     (each_is g at k d (omega (arith, lt, counted)))
 
 pub returns : goal.returns
 returns g c =
     let at = (goal.at.returns g c).In_ok-made in
     IfOk-weaker c.taken_apart.result _ _ (λ all is.
-    all_prepared c.args.axis c.args.tech.now c.args.plan.now c.args.masters.now c.args.layouts.now c.args.ranges
+    all_prepared c.args.axis c.args.tech.now c.args.plan.now c.args.masters.now c.args.layouts.now
     c.in_ok-made.made.items all (made_counted g at) (each_is g at) is) c.taken_apart.ensures

@@ -3,8 +3,8 @@ use Rattle.pair_rules.specs.Bound.{no_item}
 use Rattle.scan_line.proofs.Reach.{near_and_before, faces_in_group}
 use Rattle.scan_line.proofs.lanes.Lanes.line_facing.Goals as goal
 
-pub returns-clause-line : goal.returns-clause-line
-returns-clause-line c =
+pub returns : goal.returns
+returns c =
     let told = c.line_to.ensures in
     record {
       in_range = told.in_range;

@@ -49,5 +49,4 @@ returns c = record {
   diffusion = c.in_ok-diffusion.ensures;
   poly = c.in_ok-poly.ensures;
   channels = c.in_ok-channels.ensures;
-  kinds = c.in_ok-kinds.ensures;
 }

@@ -1,5 +1,5 @@
 use Rattle.std.proofs.Common.{ap, ◌∙◌, rules, ℕ, ◌<◌, length, Vec, Global}
-use Rattle.scan_line.{specs.declared.runs.Run.Run, proofs.Lists.list_read}
+use Rattle.scan_line.proofs.Lists.{list_read}
 use Rattle.scan_line.proofs.level.Level.lane_over.Goals as goal
 
 pub returns : goal.returns
@@ -7,14 +7,11 @@ returns c =
     let level = c.args.self.now in
     let lane : ℕ = c.number_of-lane.result in
     let lt : lane < length level.lists.items = search rules in
-    let runs_lt : lane < length level.runs.items = search rules in
     record {
       lane = lane;
       among = lt;
       list_is = c.as_slice.ensures.value
           ∙ (ap (λ (v : Vec ℕ Global). v.items) c.index.ensures ∙ list_read level.lists.items lane _ lt);
-      runs_are = c.as_slice-2.ensures.value ∙ (ap (λ (v : Vec Run Global). v.items) c.index-2.ensures
-          ∙ list_read level.runs.items lane _ runs_lt);
       low_in = search rules;
       high_in = search rules;
     }

@@ -1,0 +1,3 @@
+pub mod Contacts
+pub mod Facing
+pub mod Rows

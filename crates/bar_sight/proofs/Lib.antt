@@ -1,0 +1,9 @@
+pub mod Asked
+pub mod Behind
+pub mod Ends
+pub mod Found
+pub mod Laws
+pub mod Nexts
+pub mod Steps
+pub mod Stops
+pub mod Widths

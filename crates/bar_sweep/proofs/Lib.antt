@@ -1,0 +1,5 @@
+pub mod Begun
+pub mod MetOwners
+pub mod Placed
+pub mod Swept
+pub mod Turned

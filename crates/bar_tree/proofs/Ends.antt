@@ -1,0 +1,32 @@
+-- Orders of ends, tests, and nodes that cover bars.
+use Rattle.std.proofs.{Common.{◌≡◌, ℕ, ◌↔◌, ◌<ℤ◌, ◌≤ℤ◌, ℤ, arith, rules, refl, sym, subst, ◌∙◌}, lemmas.Int.ints}
+use Rattle.std.proofs.Common.{IsTrue, Bool, not, true, false}
+use Rattle.bar_rows.specs.{declared.bars.Bar.Bar, Contacts.{HasContact}, declared.bars.Contacts.Contacts}
+use Rattle.bar_tree.specs.Nodes.{Covers, EndsWithin, IsAlike}
+use Rattle.bar_tree.specs.declared.node.Node.{Node}
+
+-- what a test says that is turned round
+pub turned : (b : Bool) {P : Type 0} → (IsTrue b ↔ P) → (IsTrue (not b) ↔ (P → ⊥))
+turned true e = (λ t. absurd (search (rules, t)), λ n. absurd (n (e.0 refl)))
+turned false e = (λ t p. absurd (search (rules, e.1 p)), λ n. refl)
+
+-- three places do not stand in a circle
+pub no_circle : (a b c : ℤ) → a ≤ℤ b → b ≤ℤ c → c <ℤ a → ⊥
+no_circle a b c p q r = omega (arith, ints)
+
+pub no_circle_late : (a b c : ℤ) → a ≤ℤ b → b <ℤ c → c ≤ℤ a → ⊥
+no_circle_late a b c p q r = omega (arith, ints)
+
+-- a node with one bar more covers that bar
+pub covers_one : (n m r : Node) (b : Bar) → n.is_empty ≡ false → b.start ≤ℤ n.late
+    → ((k : ℕ) → HasContact n.contacts k → HasContact b.contacts k)
+    → IsAlike n m → IsAlike m r → EndsWithin r b → Covers r b
+covers_one n m r b some start contacts first second end =
+    let late : r.late ≡ n.late = second.late ∙ first.late in
+    let same : r.contacts ≡ n.contacts = second.contacts ∙ first.contacts in
+    record {
+      some = λ e. absurd (cc (some, first.some, second.some, e));
+      end = end;
+      start = subst (λ (l : ℤ). b.start ≤ℤ l) (sym late) start;
+      contacts = subst (λ (cs : Contacts). (k : ℕ) → HasContact cs k → HasContact b.contacts k) (sym same) contacts;
+    }

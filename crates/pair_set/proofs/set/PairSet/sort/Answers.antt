@@ -1,0 +1,13 @@
+use Rattle.std.proofs.lemmas.List.Filters.{dedup_is}
+use Rattle.pair_set.proofs.Ordered.{in_order, same_members, pair_eq}
+use Rattle.pair_set.proofs.set.PairSet.sort.Goals as goal
+
+pub returns-clause-in_order : goal.returns-clause-in_order
+returns-clause-in_order c =
+    rw (dedup_is pair_eq c.sort_unstable.new.self.items c.dedup.new.self.items c.dedup.ensures.filtered)
+    (in_order c.sort_unstable.new.self.items c.sort_unstable.ensures.sorted)
+
+pub returns-clause-same : goal.returns-clause-same
+returns-clause-same c =
+    rw (dedup_is pair_eq c.sort_unstable.new.self.items c.dedup.new.self.items c.dedup.ensures.filtered)
+    (same_members c.args.self.now.pairs.items c.sort_unstable.new.self.items c.sort_unstable.ensures.permutation)
