@@ -8,9 +8,9 @@ use Rattle.pair_set.specs.{declared.set.PairSet.PairSet, Sets.{pairs_of}}
 use Rattle.bar_rows.specs.{declared.bars.{Contacts.Contacts}, Contacts.ShareContact, Facing.Faces}
 use Rattle.bar_rows.specs.Rows.{bar_at, no_bar, IsPlacedBar, Varies, numbers_of}
 use Rattle.bar_tree.specs.{Nodes.Fits, Trees.{IsAskedFor, IsFirstAsked}}
-use Rattle.bar_sight.specs.declared.{row.Row.Row, mains.{Passed.Passed, Stop.Stop}}
+use Rattle.bar_sight.specs.declared.{row.Row.Row, mains.Passed.Passed, left.Left.Left}
 use Rattle.bar_sight.specs.Sight.{IsRow, AllBegun, AddsFrom, IsScreen}
-use Rattle.bar_sight.specs.Looks.{key_of, contacts_of, IsSought, HasFound, IsPassed, IsNext, IsStop}
+use Rattle.bar_sight.specs.Looks.{key_of, contacts_of, IsSought, HasFound, IsPassed, IsNext, AreLeft}
 use Rattle.bar_sight.specs.Looks.{IsNextOther, IsLate}
 use Rattle.bar_sight.proofs.{Laws.main_bound, Asked.{first_key, first_apart, above_low}, Nexts.not_late}
 use Rattle.bar_sight.proofs.{Behind.sought_from, Found.{found_more}}
@@ -116,13 +116,9 @@ passed_from row place above from then passed before h =
       hidden = λ q s hidden. h.hidden q (sought_from row place above from then true q before s) hidden;
     }
 
-pub stop_from : (row : Row) (place : ℕ) (above : ℤ) (from then : ℕ) (stop : Stop) → from ≤ then
-    → IsStop row place above from stop → IsStop row place above then stop
-stop_from row place above from then stop before h =
-    record {
-      keys = λ q k s e. h.keys q k (sought_from row place above from then true q before s) e;
-      owners = λ q o s e. h.owners q o (sought_from row place above from then true q before s) e;
-    }
+pub left_from : (row : Row) (place : ℕ) (above : ℤ) (from then : ℕ) (left : Left) → from ≤ then
+    → AreLeft row place above from left → AreLeft row place above then left
+left_from row place above from then left before h = λ q s. h q (sought_from row place above from then true q before s)
 
 pub mains_found : (row : Row) (place : ℕ) (above : ℤ) (from p : ℕ) (passed : Passed) (old new : PairSet)
     → AddsFrom row place old new → IsPassed row place above from passed → IsNext row place above from passed p

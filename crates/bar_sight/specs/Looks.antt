@@ -1,11 +1,11 @@
 -- What a look from a bar comes by on its way out.
-use Rattle.std.specs.Prelude.{◌≡◌, ℕ, ◌<◌, ◌≤◌, ◌<ℤ◌, ℤ, Bool, true, false, IsTrue, length, Option, Some, None}
+use Rattle.std.specs.Prelude.{◌≡◌, ◌⊎◌, ℕ, ◌<◌, ◌≤◌, ◌<ℤ◌, ℤ, Bool, true, false, IsTrue, length, Option, Some, None}
 use Rattle.std.specs.{Prelude.if◌then◌else◌, Bool.then_some}
 use Rattle.std.specs.List.{Contains}
 use Rattle.sym_items.specs.Standing.{nowhere}
 use Rattle.pair_set.specs.{declared.set.PairSet.PairSet, Sets.pairs_of}
 use Rattle.bar_rows.specs.{declared.bars.{Bar.Bar, Contacts.Contacts}, Rows.{bar_at, Sees, Varies, numbers_of}}
-use Rattle.bar_sight.specs.declared.{row.Row.Row, mains.{Passed.Passed, Stop.Stop}}
+use Rattle.bar_sight.specs.declared.{row.Row.Row, mains.Passed.Passed, left.Left.{Left, TheVariants.{All, Of, Pairs}}}
 
 -- no contacts
 abbrev pub free : Contacts
@@ -55,11 +55,22 @@ pub record IsNext (row : Row) (place : ℕ) (above : ℤ) (from : ℕ) (passed :
   pub ends : above <ℤ (bar_at row.bars.items p).end
   pub first : (q : ℕ) → IsSought row place above from true q → q < p → IsHidden passed (bar_at row.bars.items q)
 
--- all that are sought from some place on are of the key of one found, and of the owner of another, where there are such
-pub record IsStop (row : Row) (place : ℕ) (above : ℤ) (from : ℕ) (stop : Stop) : Type 0 where
-  pub keys : (q k : ℕ) → IsSought row place above from true q → stop.key ≡ Some k → (bar_at row.bars.items q).key ≡ k
-  pub owners : (q o : ℕ) → IsSought row place above from true q → stop.owner ≡ Some o
-      → (bar_at row.bars.items q).owner ≡ o
+-- a bar is of a key, or of an owner, where one is given; or of both that a pair names
+abbrev pub IsOf : ℕ → Option ℕ → Bar → Type 0
+IsOf key owner b = (b.key ≡ key) ⊎ (owner ≡ Some b.owner)
+
+abbrev pub IsPair : Option (ℕ × ℕ) → Bar → Type 0
+IsPair pair b = pair ≡ Some (b.key, b.owner)
+
+-- a bar is one of those that are left
+abbrev pub IsLeft : Left → Bar → Type 0
+IsLeft All b = Unit {0}
+IsLeft (Of key owner) b = IsOf key owner b
+IsLeft (Pairs one other) b = IsPair one b ⊎ IsPair other b
+
+-- all main bars that are sought from some place on are left
+abbrev pub AreLeft : Row → ℕ → ℤ → ℕ → Left → Type 0
+AreLeft row place above from left = (q : ℕ) → IsSought row place above from true q → IsLeft left (bar_at row.bars.items q)
 
 -- ---- other bars
 

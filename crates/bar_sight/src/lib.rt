@@ -6,6 +6,7 @@
 //! was found screens all that lies behind.
 #![tactic(auto)]
 
+mod left;
 mod looking;
 mod mains;
 mod others;

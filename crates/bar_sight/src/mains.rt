@@ -6,9 +6,10 @@ ghost use Rattle.pair_set.specs.Sets.{pairs_of, limit_of, RefusesPair};
 ghost use Rattle.bar_rows.specs.{Rows.{bar_at, Sees, Varies, numbers_of}, Facing.Faces};
 ghost use Rattle.bar_tree.specs.Nodes.{Fits};
 ghost use Rattle.bar_sight.specs.Sight.{IsRow, AllBegun, AddsFrom, IsScreen, last_at};
-ghost use Rattle.bar_sight.specs.Looks.{IsFree, IsSought, IsHidden, IsPassed, IsNext, IsStop};
+ghost use Rattle.bar_sight.specs.Looks.{IsFree, IsSought, IsHidden, IsPassed, IsNext, AreLeft};
 
-use crate::looking::{LOW, contacts_of, is_free, is_other, key_of};
+use crate::left::Left;
+use crate::looking::{LOW, contacts_of, is_free, key_of};
 use crate::row::Row;
 use bar_rows::faces;
 use bar_tree::Query;
@@ -20,13 +21,6 @@ use pair_set::{PairSet, SetFault};
 pub(crate) struct Passed {
     pub first: Option<u32>,
     pub late: i64,
-}
-
-// A key of which all bars are that may still be seen, and an owner, where bars were found that screen all others.
-#[derive(Clone, Copy)]
-pub(crate) struct Stop {
-    pub key: Option<u32>,
-    pub owner: Option<u32>,
 }
 
 impl Row {
@@ -68,10 +62,7 @@ impl Row {
             first: None,
             late: LOW,
         };
-        let mut stop = Stop {
-            key: None,
-            owner: None,
-        };
+        let mut left = Left::All;
         while let Some(next) = self.next_main(&all, place, passed, from) {
             from = next + 1;
             if !faces(self.self_rule, bar, &bars[next]) {
@@ -79,8 +70,8 @@ impl Row {
             }
             let screen = self.look(place, next, found)?;
             passed = self.pass(place, next, passed, screen);
-            match self.stop(place, next, stop) {
-                Some(further) => stop = further,
+            match self.left_behind(place, next, left) {
+                Some(fewer) => left = fewer,
                 None => return Ok(()),
             }
         }
@@ -139,9 +130,9 @@ impl Row {
         }
     }
 
-    // What is known once a main bar has been found that the bar at a place faces; nothing where no main bar farther
-    // along is seen.
-    fn stop(&self, place: usize, far: usize, stop: Stop) -> Option<Stop>
+    // What is left once a main bar has been found that the bar at a place faces; nothing where no main bar farther along
+    // is seen.
+    fn left_behind(&self, place: usize, far: usize, left: Left) -> Option<Left>
         requires row { IsRow self.now }
         requires in_order { place < far }
         requires among { far < length self.now.bars.items }
@@ -149,32 +140,16 @@ impl Row {
         requires faces { Faces self.now.self_rule (bar_at self.now.bars.items place) (bar_at self.now.bars.items far) }
         ensures { (above : ℤ) → (bar_at self.now.bars.items place).end ≤ℤ (above +ℤ pos 1)
             → above <ℤ (bar_at self.now.bars.items far).end
-            → IsStop self.now place above (far + 1) stop
+            → AreLeft self.now place above (far + 1) left
             → MatchOption result ((q : ℕ) → IsSought self.now place above (far + 1) true q → ⊥)
-            (IsStop self.now place above (far + 1)) }
+            (AreLeft self.now place above (far + 1)) }
     {
         let bars = self.bars.as_slice();
         let bar = &bars[far];
         if !self.self_rule || !bar.is_solid {
-            return Some(stop);
+            return Some(left);
         }
-        let is_last = self.lasts[far].of_mains;
-        let Some(key) = stop.key else {
-            return Some(Stop {
-                key: is_last.then_some(bar.key),
-                owner: None,
-            });
-        };
-        if key == bar.key {
-            return Some(stop);
-        }
-        if is_last || is_other(stop.owner, bar.owner) {
-            return None;
-        }
-        Some(Stop {
-            key: stop.key,
-            owner: Some(bar.owner),
-        })
+        left.behind(bar.key, (!self.lasts[far].of_mains).then_some(bar.owner))
     }
 
     // Whether a bar that screens may do so for all main bars farther along: it has no contact, and none of these is of

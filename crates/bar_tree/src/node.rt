@@ -166,10 +166,10 @@ impl Node {
         requires node { IsNode self.now }
         ensures { (b : Bar) → Covers self.now b → Fits query.now b → IsTrue result }
     {
-        if self.end_beside(query) <= query.above || self.late < query.from {
+        if self.first <= query.above || self.late < query.from {
             return false;
         }
-        !self.contacts.share(query.contacts)
+        self.end_beside(query) > query.above && !self.contacts.share(query.contacts)
     }
 
     // An end that no bar passes whose key is none of the two that are left out.

@@ -13,6 +13,9 @@ use std::alloc::{AllocError, Global};
 // How many times as many places as a node of the level below a node stands for, as a power of two.
 const SHIFT: u32 = 3;
 
+// The places of the least nodes, less one.
+const LEAST: usize = 7;
+
 /// The nodes of a level, each of which stands for `width` places, which are two to the power of `shift`.
 #[derive(Drop)]
 pub(crate) struct Level {
@@ -151,15 +154,18 @@ impl Tree {
         let mut place = from;
         let mut begins = true;
         while place < to {
-            let end = self.past(bars, query, place, begins);
-            begins = false;
-            if end > place {
-                place = end;
-            } else if self.started[place] && query.fits(&bars[place]) {
-                return Some(place);
-            } else {
-                place += 1;
+            if begins || place & LEAST == 0 {
+                let end = self.past(bars, query, place, begins);
+                begins = false;
+                if end > place {
+                    place = end;
+                    continue;
+                }
             }
+            if self.started[place] && query.fits(&bars[place]) {
+                return Some(place);
+            }
+            place += 1;
         }
         None
     }

@@ -5,7 +5,7 @@ use Rattle.pair_set.specs.Sets.{pairs_of}
 use Rattle.bar_rows.specs.Rows.{bar_at, numbers_of}
 use Rattle.bar_sight.specs.Looks.{IsNext}
 use Rattle.bar_sight.proofs.Found.{adds_none, adds_more, all_found}
-use Rattle.bar_sight.proofs.Steps.{main_fits, not_sought, looked, passed_from, stop_from, mains_found}
+use Rattle.bar_sight.proofs.Steps.{main_fits, not_sought, looked, passed_from, left_from, mains_found}
 use Rattle.bar_sight.proofs.row.Row.look_at_mains.Goals as goal
 
 pub next_main-requires-clause-all : goal.next_main-requires-clause-all
@@ -40,7 +40,7 @@ loop-next-preserved-then-not-faces c =
           (rw c.as_slice-bars.ensures.value at c.faces.ensures) c.if-not-faces.true)
           h.found;
       passed = passed_from row place above from (p + 1) c.loop-next.passed on h.passed;
-      stop = stop_from row place above from (p + 1) c.loop-next.stop on h.stop;
+      left = left_from row place above from (p + 1) c.loop-next.left on h.left;
     }
 
 pub returns-in_err-screen-clause-adds : goal.returns-in_err-screen-clause-adds
@@ -74,8 +74,8 @@ loop-next-preserved c =
           h.found;
       passed = c.pass-passed.ensures above low
           (passed_from row place above from (p + 1) c.loop-next.passed on h.passed);
-      stop = c.in-Some-stop.ensures above low next.ends
-          (stop_from row place above from (p + 1) c.loop-next.stop on h.stop);
+      left = c.in-Some-left_behind.ensures above low next.ends
+          (left_from row place above from (p + 1) c.loop-next.left on h.left);
     }
 
 pub returns-in-None-clause-adds : goal.returns-in-None-clause-adds
@@ -104,5 +104,5 @@ returns-in-None-clause-all c =
     (Contains (pairs_of new) (numbers_of row.turned row.bars.items place p)) c.in_ok-screen.ensures.screen)
     h.found)
     (c.in-None.ensures above low next.ends
-    (stop_from row place above from (p + 1) c.loop-next.stop on h.stop))
+    (left_from row place above from (p + 1) c.loop-next.left on h.left))
     q main sees varies (rw (to_z-of_z w64 c.args.above c.ranges.above) ends)

@@ -1,6 +1,6 @@
 use Rattle.std.proofs.Common.{◌<◌, ◌≤◌, ◌-◌, true, length}
 use Rattle.pair_set.specs.Sets.{pairs_of, limit_of}
-use Rattle.bar_sight.specs.{Sight.AddsFrom, Looks.{HasFound, IsPassed, IsStop}}
+use Rattle.bar_sight.specs.{Sight.AddsFrom, Looks.{HasFound, IsPassed, AreLeft}}
 use Rattle.bar_sight.proofs.row.Row.look_at_mains.Given as goal
 
 abbrev pub invariant-loop-next : goal.invariant-loop-next
@@ -11,7 +11,7 @@ invariant-loop-next l =
       adds : AddsFrom l.self l.place l.fn.found l.found;
       found : HasFound l.self l.place l.above l.from true l.found;
       passed : IsPassed l.self l.place l.above l.from l.passed;
-      stop : IsStop l.self l.place l.above l.from l.stop;
+      left : AreLeft l.self l.place l.above l.from l.left;
     }
 
 abbrev pub decreases-loop-next : goal.decreases-loop-next
