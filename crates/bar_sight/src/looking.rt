@@ -23,6 +23,30 @@ pub(crate) const FREE: Contacts = Contacts {
     high: NOWHERE,
 };
 
+/// What is known of bars that may screen: a search among the main bars that have started found none that it asks for,
+/// behind a bar and before a place.
+#[derive(Clone, Copy)]
+pub(crate) struct Clear {
+    pub query: Query,
+    pub to: usize,
+}
+
+/// Nothing is known yet of the bars behind a place.
+pub(crate) fn clear_from(place: usize) -> Clear
+    ensures { (row : Row) → IsClear row place result }
+{
+    Clear {
+        query: Query {
+            above: LOW,
+            from: LOW,
+            key: None,
+            other: None,
+            contacts: FREE,
+        },
+        to: 0,
+    }
+}
+
 /// The key of a main bar; none of another.
 pub(crate) fn key_of(bar: &Bar) -> Option<u32>
     ensures { result ≡ key_of bar.now }
@@ -55,8 +79,16 @@ pub(crate) fn is_other(there: Option<u32>, number: u32) -> bool
 }
 
 impl Row {
-    // The first bar of a tree between two places that screens two bars from each other, of those that are asked for.
-    fn screen_in(&self, tree: &Tree, query: &Query, place: usize, far: usize) -> Option<usize>
+    // The first bar of a tree from one place on and before another that screens two bars from each other, of those that
+    // are asked for.
+    fn screen_in(
+        &self,
+        tree: &Tree,
+        query: &Query,
+        from: usize,
+        place: usize,
+        far: usize,
+    ) -> Option<usize>
         requires tree { IsTreeOf self.now.bars.items tree.now }
         requires in_order { place < far }
         requires among { far < length self.now.bars.items }
@@ -65,7 +97,7 @@ impl Row {
             (IsScreen self.now place far) }
     {
         let bars = self.bars.as_slice();
-        let mut from = place + 1;
+        let mut from = from;
         while let Some(k) = tree.find(bars, query, from, far) {
             if screens(self.self_rule, &bars[place], &bars[far], &bars[k]) {
                 return Some(k);
@@ -76,7 +108,7 @@ impl Row {
     }
 
     // A main bar that screens two bars that face each other, if there is one.
-    fn main_screen(&self, place: usize, far: usize) -> Option<usize>
+    fn main_screen(&self, place: usize, far: usize, clear: &mut Clear) -> Option<usize>
         requires row { IsRow self.now }
         requires in_order { place < far }
         requires among { far < length self.now.bars.items }
@@ -103,7 +135,17 @@ impl Row {
             other: key_of(second),
             contacts,
         };
-        self.screen_in(&self.mains, &query, place, far)
+        // What was asked before need not be asked again.
+        let from = if clear.query.asks_for_all_of(&query) {
+            clear.to.max(place + 1)
+        } else {
+            place + 1
+        };
+        let Some(first) = self.mains.find(bars, &query, from, far) else {
+            *clear = Clear { query, to: far };
+            return None;
+        };
+        self.screen_in(&self.mains, &query, first, place, far)
     }
 
     // A bar that is not a main one and screens two bars that face each other, if there is one.
@@ -128,11 +170,11 @@ impl Row {
             other: None,
             contacts: FREE,
         };
-        self.screen_in(&self.others, &query, place, far)
+        self.screen_in(&self.others, &query, place + 1, place, far)
     }
 
     // A bar that screens two bars that face each other, if there is one.
-    fn screen(&self, place: usize, far: usize) -> Option<usize>
+    fn screen(&self, place: usize, far: usize, clear: &mut Clear) -> Option<usize>
         requires row { IsRow self.now }
         requires in_order { place < far }
         requires among { far < length self.now.bars.items }
@@ -141,7 +183,7 @@ impl Row {
         ensures { MatchOption result (Sees self.now.self_rule self.now.bars.items place far)
             (IsScreen self.now place far) }
     {
-        let found = self.main_screen(place, far);
+        let found = self.main_screen(place, far, clear);
         if found.is_some() {
             return found;
         }
@@ -154,6 +196,7 @@ impl Row {
         &self,
         place: usize,
         far: usize,
+        clear: &mut Clear,
         found: &mut PairSet,
     ) -> Result<Option<usize>, SetFault>
         requires row { IsRow self.now }
@@ -170,7 +213,7 @@ impl Row {
             (IsScreen self.now place far)) }
         ensures fault { IfErr result (RefusesPair found.new) }
     {
-        let screen = self.screen(place, far);
+        let screen = self.screen(place, far, clear);
         if screen.is_some() {
             return Ok(screen);
         }

@@ -9,7 +9,7 @@ ghost use Rattle.bar_sight.specs.Sight.{IsRow, AllBegun, AddsFrom, IsScreen, las
 ghost use Rattle.bar_sight.specs.Looks.{IsFree, IsSought, IsHidden, IsPassed, IsNext, AreLeft};
 
 use crate::left::Left;
-use crate::looking::{LOW, contacts_of, is_free, key_of};
+use crate::looking::{LOW, clear_from, contacts_of, is_free, key_of};
 use crate::row::Row;
 use bar_rows::faces;
 use bar_tree::Query;
@@ -63,12 +63,13 @@ impl Row {
             late: LOW,
         };
         let mut left = Left::All;
+        let mut clear = clear_from(place);
         while let Some(next) = self.next_main(&all, place, passed, from) {
             from = next + 1;
             if !faces(self.self_rule, bar, &bars[next]) {
                 continue;
             }
-            let screen = self.look(place, next, found)?;
+            let screen = self.look(place, next, &mut clear, found)?;
             passed = self.pass(place, next, passed, screen);
             match self.left_behind(place, next, left) {
                 Some(fewer) => left = fewer,

@@ -7,7 +7,7 @@ ghost use Rattle.bar_rows.specs.Rows.{bar_at, Sees, Varies, numbers_of};
 ghost use Rattle.bar_sight.specs.Sight.{IsRow, AllBegun, AddsFrom, IsScreen, last_at};
 ghost use Rattle.bar_sight.specs.Looks.{IsFree, IsSought, IsNextOther, IsLate};
 
-use crate::looking::{FREE, LOW, is_free, is_other, key_of};
+use crate::looking::{FREE, LOW, clear_from, is_free, is_other, key_of};
 use crate::row::Row;
 use bar_rows::faces;
 use bar_tree::Query;
@@ -49,12 +49,13 @@ impl Row {
         let mut from = nearest;
         // Bars that start before this are out of sight.
         let mut late = LOW;
+        let mut clear = clear_from(place);
         while let Some(next) = self.next_other(place, above, late, from, end) {
             from = next + 1;
             if !faces(self.self_rule, bar, &bars[next]) {
                 continue;
             }
-            let screen = self.look(place, next, found)?;
+            let screen = self.look(place, next, &mut clear, found)?;
             late = self.pass_other(place, next, late, screen);
         }
         Ok(())

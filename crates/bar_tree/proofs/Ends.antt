@@ -1,8 +1,8 @@
 -- Orders of ends, tests, and nodes that cover bars.
 use Rattle.std.proofs.{Common.{◌≡◌, ℕ, ◌↔◌, ◌<ℤ◌, ◌≤ℤ◌, ℤ, arith, rules, refl, sym, subst, ◌∙◌}, lemmas.Int.ints}
-use Rattle.std.proofs.Common.{IsTrue, Bool, not, true, false}
+use Rattle.std.proofs.Common.{IsTrue, Bool, not, true, false, inl, inr}
 use Rattle.bar_rows.specs.{declared.bars.Bar.Bar, Contacts.{HasContact}, declared.bars.Contacts.Contacts}
-use Rattle.bar_tree.specs.Nodes.{Covers, EndsWithin, IsAlike}
+use Rattle.bar_tree.specs.Nodes.{Covers, EndsWithin, IsNode, IsAlike}
 use Rattle.bar_tree.specs.declared.node.Node.{Node}
 
 -- what a test says that is turned round
@@ -16,6 +16,12 @@ no_circle a b c p q r = omega (arith, ints)
 
 pub no_circle_late : (a b c : ℤ) → a ≤ℤ b → b <ℤ c → c ≤ℤ a → ⊥
 no_circle_late a b c p q r = omega (arith, ints)
+
+-- the bars that a node knows of end at most at the end of the first key
+pub within_first : (n : Node) (b : Bar) → IsNode n → EndsWithin n b → b.end ≤ℤ n.first
+within_first n b is (inl rest) = let first = is.first in let second = is.second in omega (arith, ints, rest, first, second)
+within_first n b is (inr (inl key)) = key.1
+within_first n b is (inr (inr key)) = let end = key.1 in let first = is.first in omega (arith, ints, end, first)
 
 -- a node with one bar more covers that bar
 pub covers_one : (n m r : Node) (b : Bar) → n.is_empty ≡ false → b.start ≤ℤ n.late

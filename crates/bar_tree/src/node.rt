@@ -19,7 +19,21 @@ pub struct Query {
 }
 
 impl Query {
+    /// Whether all bars are asked for that another query asks for. A bar may be asked for all the same where this says
+    /// no.
+    pub fn asks_for_all_of(&self, other: &Query) -> bool
+        ensures { IsTrue result → (b : Bar) → Fits other.now b → Fits self.now b }
+    {
+        self.above <= other.above
+            && self.from <= other.from
+            && self.key == other.key
+            && self.other == other.other
+            && self.contacts.low == other.contacts.low
+            && self.contacts.high == other.contacts.high
+    }
+
     /// Whether a bar is asked for.
+    #[inline(always)]
     pub(crate) fn fits(&self, bar: &Bar) -> bool
         ensures { IsTrue result ↔ Fits self.now bar.now }
     {
@@ -34,6 +48,7 @@ impl Query {
 }
 
 // Whether a key is not the one that is left out.
+#[inline(always)]
 fn is_other(left_out: Option<u32>, key: u32) -> bool
     ensures { IsTrue result ↔ (left_out ≢ Some key) }
 {
@@ -162,17 +177,22 @@ impl Node {
     }
 
     /// Whether some of its bars may be asked for.
+    #[inline(always)]
     pub(crate) fn may_fit(&self, query: &Query) -> bool
         requires node { IsNode self.now }
         ensures { (b : Bar) → Covers self.now b → Fits query.now b → IsTrue result }
     {
-        if self.first <= query.above || self.late < query.from {
+        if self.first <= query.above {
             return false;
         }
-        self.end_beside(query) > query.above && !self.contacts.share(query.contacts)
+        if self.end_beside(query) <= query.above || self.late < query.from {
+            return false;
+        }
+        !self.contacts.share(query.contacts)
     }
 
     // An end that no bar passes whose key is none of the two that are left out.
+    #[inline(always)]
     fn end_beside(&self, query: &Query) -> i64
         requires { IsNode self.now }
         ensures { (b : Bar) → EndsWithin self.now b → query.now.key ≢ Some b.key → query.now.other ≢ Some b.key

@@ -53,6 +53,7 @@ impl Level {
     }
 
     // The end of the node that stands for a place, if none of its started bars is asked for; else the place itself.
+    #[inline(always)]
     fn past(&self, bars: &[Bar], query: &Query, place: usize) -> usize
         requires over { IsLevelOver (length bars.now) self.now }
         requires among { place < length bars.now }
@@ -79,6 +80,7 @@ impl Level {
 /// A tree over the places of a row, and which of its bars have started.
 #[derive(Drop)]
 pub struct Tree {
+    is_empty: bool,
     started: Vec<bool>,
     levels: Vec<Level>,
 }
@@ -97,7 +99,11 @@ impl Tree {
             levels.push(Level::over(alloc, places, shift)?)?;
             shift += SHIFT;
         }
-        Ok(Tree { started, levels })
+        Ok(Tree {
+            is_empty: true,
+            started,
+            levels,
+        })
     }
 
     /// The bar at a place starts.
@@ -107,6 +113,7 @@ impl Tree {
         ensures tree { IsTreeOf bars.now self.new }
         ensures started { (p : ℕ) → IsStarted self.new p ↔ (IsStarted self.old p ⊎ (p ≡ place)) }
     {
+        self.is_empty = false;
         self.started[place] = true;
         for level in self.levels.iter_mut() {
             level.start(bars, place);
@@ -114,23 +121,16 @@ impl Tree {
     }
 
     // A place up to which, from one on, none of the started bars is asked for: the end of a node that stands for it, or
-    // the place itself. Where a search begins, the top node is looked at first, and then whatever node stands for the
-    // place; later only nodes that begin there.
+    // the place itself. Where a search begins, whatever node stands for the place is looked at, later only nodes that
+    // begin there.
     fn past(&self, bars: &[Bar], query: &Query, place: usize, begins: bool) -> usize
         requires tree { IsTreeOf bars.now self.now }
         requires among { place < length bars.now }
         ensures after { place ≤ result }
         ensures none { (p : ℕ) → place ≤ p → p < result → IsAskedFor bars.now self.now query.now p → ⊥ }
     {
-        let levels = self.levels.as_slice();
-        if begins && levels.len() > 0 {
-            let end = levels[levels.len() - 1].past(bars, query, place);
-            if end > place {
-                return end;
-            }
-        }
         let mut end = place;
-        for level in levels {
+        for level in &self.levels {
             if !begins && !level.begins_at(place) {
                 break;
             }
@@ -143,6 +143,24 @@ impl Tree {
         end
     }
 
+    // The first place from one on that no node tells to hold no bar that is asked for, or one past `to`.
+    fn skip(&self, bars: &[Bar], query: &Query, from: usize, to: usize) -> usize
+        requires tree { IsTreeOf bars.now self.now }
+        requires among { to ≤ length bars.now }
+        ensures after { from ≤ result }
+        ensures none { (p : ℕ) → from ≤ p → p < result → IsAskedFor bars.now self.now query.now p → ⊥ }
+    {
+        let mut place = from;
+        while place < to {
+            let end = self.past(bars, query, place, place == from);
+            if end == place {
+                return place;
+            }
+            place = end;
+        }
+        place
+    }
+
     /// The first place from one up to before another whose bar has started and is asked for, if there is one.
     pub fn find(&self, bars: &[Bar], query: &Query, from: usize, to: usize) -> Option<usize>
         requires tree { IsTreeOf bars.now self.now }
@@ -151,21 +169,21 @@ impl Tree {
             ((p : ℕ) → from ≤ p → p < to → IsAskedFor bars.now self.now query.now p → ⊥)
             (IsFirstAsked bars.now self.now query.now from to) }
     {
+        if self.is_empty {
+            return None;
+        }
         let mut place = from;
-        let mut begins = true;
         while place < to {
-            if begins || place & LEAST == 0 {
-                let end = self.past(bars, query, place, begins);
-                begins = false;
-                if end > place {
-                    place = end;
-                    continue;
-                }
-            }
             if self.started[place] && query.fits(&bars[place]) {
                 return Some(place);
             }
-            place += 1;
+            let next = place + 1;
+            // Nodes are asked behind the first place, and then where they begin.
+            place = if place == from || next & LEAST == 0 {
+                self.skip(bars, query, next, to)
+            } else {
+                next
+            };
         }
         None
     }

@@ -40,6 +40,13 @@ pub struct PairSet {
     limit: u32,
 }
 
+// A pair as one number, by which pairs stand in order of their first numbers, and of their second ones.
+fn key_of(pair: (u32, u32)) -> u64
+    ensures { result ≡ key_of pair }
+{
+    ((pair.0 as u64) << 32) | pair.1 as u64
+}
+
 impl PairSet {
     /// A set with no pairs, for at most `limit`. It takes no memory.
     pub fn new(alloc: Global, limit: u32) -> PairSet
@@ -79,7 +86,7 @@ impl PairSet {
         ensures few { length (pairs_of self.new) ≤ length (pairs_of self.old) }
         ensures limit { limit_of self.new ≡ limit_of self.old }
     {
-        self.pairs.sort_unstable();
+        self.pairs.sort_unstable_by_key(|pair| key_of(*pair));
         self.pairs.dedup();
     }
 

@@ -14,7 +14,7 @@ ghost use Rattle.shadow_prune.specs.KeptNumbers.{IsKeptNumbers, pairs_of_numbers
 use crate::families::{FAMILIES, Family};
 use bar_sweep::add_seen;
 use lam_geom::Axis;
-use pair_rules::{Pair, facing_spacing};
+use pair_rules::{Pair, is_bound};
 use pair_set::{PairSet, SetFault};
 use rule_table::Tech;
 use scan_line::{begins_of, sort_order};
@@ -109,8 +109,7 @@ fn with_spacings(
     let mut pairs = Vec::with_capacity(alloc, numbers.len())?;
     for (j, i) in numbers {
         let (i, j) = (*i, *j);
-        let spacing = facing_spacing(axis, tech, coords, &items[i as usize], &items[j as usize]);
-        if let Some(s) = spacing {
+        if let Some(s) = is_bound(tech, &items[i as usize], &items[j as usize]) {
             pairs.push(Pair { i, j, s })?;
         }
     }
