@@ -6,6 +6,8 @@ use Rattle.sym_items.specs.Standing.{nowhere}
 use Rattle.pair_set.specs.{declared.set.PairSet.PairSet, Sets.pairs_of}
 use Rattle.bar_rows.specs.{declared.bars.{Bar.Bar, Contacts.Contacts}, Rows.{bar_at, Sees, Varies, numbers_of}}
 use Rattle.bar_sight.specs.declared.{row.Row.Row, mains.Passed.Passed, left.Left.{Left, TheVariants.{All, Of, Pairs}}}
+use Rattle.bar_sight.specs.declared.looking.Clear.{Clear}
+use Rattle.bar_tree.specs.Trees.{IsAskedFor}
 
 -- no contacts
 abbrev pub free : Contacts
@@ -33,6 +35,11 @@ pub record IsSought (row : Row) (place : ℕ) (above : ℤ) (from : ℕ) (is_mai
 abbrev pub HasFound : Row → ℕ → ℤ → ℕ → Bool → PairSet → Type 0
 HasFound row place above from is_main found = (q : ℕ) → IsSought row place above 0 is_main q → q < from
     → Varies row.bars.items place q → Contains (pairs_of found) (numbers_of row.turned row.bars.items place q)
+
+-- no main bar behind a place and before where a search ended is asked for by it, of those that have started
+abbrev pub IsClear : Row → ℕ → Clear → Type 0
+IsClear row place clear = (k : ℕ) → place < k → k < clear.to
+    → IsAskedFor row.bars.items row.mains clear.query k → ⊥
 
 -- ---- main bars
 

@@ -6,7 +6,8 @@ ghost use Rattle.pair_set.specs.Sets.{pairs_of, limit_of, RefusesPair};
 ghost use Rattle.bar_rows.specs.{Rows.{bar_at, Sees, Varies, numbers_of}, Facing.Faces};
 ghost use Rattle.bar_tree.specs.Trees.{IsTreeOf, IsAskedFor};
 ghost use Rattle.bar_sight.specs.Sight.{IsRow, AllBegun, AddsFrom, IsScreen};
-ghost use Rattle.bar_sight.specs.Looks.{IsFree, key_of, contacts_of};
+ghost use Rattle.bar_sight.specs.declared.row.Row.{Row};
+ghost use Rattle.bar_sight.specs.Looks.{IsFree, IsClear, key_of, contacts_of};
 
 use crate::row::Row;
 use bar_rows::{Bar, Contacts, screens};
@@ -80,7 +81,7 @@ pub(crate) fn is_other(there: Option<u32>, number: u32) -> bool
 
 impl Row {
     // The first bar of a tree from one place on and before another that screens two bars from each other, of those that
-    // are asked for.
+    // are asked for; none before the first place is.
     fn screen_in(
         &self,
         tree: &Tree,
@@ -90,7 +91,8 @@ impl Row {
         far: usize,
     ) -> Option<usize>
         requires tree { IsTreeOf self.now.bars.items tree.now }
-        requires in_order { place < far }
+        requires after { place < from }
+        requires none { (k : ℕ) → place < k → k < from → IsAskedFor self.now.bars.items tree.now query.now k → ⊥ }
         requires among { far < length self.now.bars.items }
         ensures { MatchOption result
             ((k : ℕ) → IsAskedFor self.now.bars.items tree.now query.now k → IsScreen self.now place far k → ⊥)
@@ -107,20 +109,15 @@ impl Row {
         None
     }
 
-    // A main bar that screens two bars that face each other, if there is one.
-    fn main_screen(&self, place: usize, far: usize, clear: &mut Clear) -> Option<usize>
+    // What asks for all main bars that may screen two others.
+    fn main_query(&self, place: usize, far: usize) -> Query
         requires row { IsRow self.now }
         requires in_order { place < far }
         requires among { far < length self.now.bars.items }
-        requires faces { Faces self.now.self_rule (bar_at self.now.bars.items place) (bar_at self.now.bars.items far) }
         requires begun { AllBegun self.now (bar_at self.now.bars.items place).end }
-        ensures { MatchOption result
-            ((k : ℕ) → IsTrue (bar_at self.now.bars.items k).is_main → IsScreen self.now place far k → ⊥)
-            (IsScreen self.now place far) }
+        ensures { (k : ℕ) → IsTrue (bar_at self.now.bars.items k).is_main → IsScreen self.now place far k
+            → IsAskedFor self.now.bars.items self.now.mains result k }
     {
-        if !self.self_rule {
-            return None;
-        }
         let bars = self.bars.as_slice();
         let (first, second) = (&bars[place], &bars[far]);
         let contacts = if first.is_main {
@@ -128,20 +125,49 @@ impl Row {
         } else {
             first.contacts
         };
-        let query = Query {
+        Query {
             above: first.start.max(second.start),
             from: LOW,
             key: key_of(first),
             other: key_of(second),
             contacts,
-        };
-        // What was asked before need not be asked again.
-        let from = if clear.query.asks_for_all_of(&query) {
-            clear.to.max(place + 1)
-        } else {
-            place + 1
-        };
-        let Some(first) = self.mains.find(bars, &query, from, far) else {
+        }
+    }
+
+    // A place behind another before which no main bar is asked for, by what a search found.
+    fn first_to_ask(&self, query: &Query, place: usize, clear: &Clear) -> usize
+        requires row { IsRow self.now }
+        requires among { place < length self.now.bars.items }
+        requires clear { IsClear self.now place clear.now }
+        ensures after { place < result }
+        ensures none { (k : ℕ) → place < k → k < result
+            → IsAskedFor self.now.bars.items self.now.mains query.now k → ⊥ }
+    {
+        if clear.to > place && clear.query.asks_for_all_of(query) {
+            return clear.to;
+        }
+        place + 1
+    }
+
+    // A main bar that screens two bars that face each other, if there is one.
+    fn main_screen(&self, place: usize, far: usize, clear: &mut Clear) -> Option<usize>
+        requires row { IsRow self.now }
+        requires in_order { place < far }
+        requires among { far < length self.now.bars.items }
+        requires faces { Faces self.now.self_rule (bar_at self.now.bars.items place) (bar_at self.now.bars.items far) }
+        requires begun { AllBegun self.now (bar_at self.now.bars.items place).end }
+        requires clear { IsClear self.now place clear.old }
+        ensures clear { IsClear self.now place clear.new }
+        ensures screen { MatchOption result
+            ((k : ℕ) → IsTrue (bar_at self.now.bars.items k).is_main → IsScreen self.now place far k → ⊥)
+            (IsScreen self.now place far) }
+    {
+        if !self.self_rule {
+            return None;
+        }
+        let query = self.main_query(place, far);
+        let from = self.first_to_ask(&query, place, clear);
+        let Some(first) = self.mains.find(self.bars.as_slice(), &query, from, far) else {
             *clear = Clear { query, to: far };
             return None;
         };
@@ -180,7 +206,9 @@ impl Row {
         requires among { far < length self.now.bars.items }
         requires faces { Faces self.now.self_rule (bar_at self.now.bars.items place) (bar_at self.now.bars.items far) }
         requires begun { AllBegun self.now (bar_at self.now.bars.items place).end }
-        ensures { MatchOption result (Sees self.now.self_rule self.now.bars.items place far)
+        requires clear { IsClear self.now place clear.old }
+        ensures clear { IsClear self.now place clear.new }
+        ensures screen { MatchOption result (Sees self.now.self_rule self.now.bars.items place far)
             (IsScreen self.now place far) }
     {
         let found = self.main_screen(place, far, clear);
@@ -204,7 +232,9 @@ impl Row {
         requires among { far < length self.now.bars.items }
         requires faces { Faces self.now.self_rule (bar_at self.now.bars.items place) (bar_at self.now.bars.items far) }
         requires begun { AllBegun self.now (bar_at self.now.bars.items place).end }
+        requires clear { IsClear self.now place clear.old }
         requires few { length (pairs_of found.old) ≤ limit_of found.old }
+        ensures clear { IsClear self.now place clear.new }
         ensures adds { AddsFrom self.now place found.old found.new }
         ensures few { OnOk result (length (pairs_of found.new) ≤ limit_of found.new) }
         ensures screen { IfOk result (λ screen. MatchOption screen

@@ -1,9 +1,9 @@
 -- Orders of ends, tests, and nodes that cover bars.
 use Rattle.std.proofs.{Common.{◌≡◌, ℕ, ◌↔◌, ◌<ℤ◌, ◌≤ℤ◌, ℤ, arith, rules, refl, sym, subst, ◌∙◌}, lemmas.Int.ints}
 use Rattle.std.proofs.Common.{IsTrue, Bool, not, true, false, inl, inr}
-use Rattle.bar_rows.specs.{declared.bars.Bar.Bar, Contacts.{HasContact}, declared.bars.Contacts.Contacts}
-use Rattle.bar_tree.specs.Nodes.{Covers, EndsWithin, IsNode, IsAlike}
-use Rattle.bar_tree.specs.declared.node.Node.{Node}
+use Rattle.bar_rows.specs.{declared.bars.Bar.Bar, Contacts.{HasContact, ShareContact}, declared.bars.Contacts.Contacts}
+use Rattle.bar_tree.specs.Nodes.{Fits, Covers, EndsWithin, IsNode, IsAlike}
+use Rattle.bar_tree.specs.declared.node.{Node.Node, Query.Query}
 
 -- what a test says that is turned round
 pub turned : (b : Bool) {P : Type 0} → (IsTrue b ↔ P) → (IsTrue (not b) ↔ (P → ⊥))
@@ -35,4 +35,18 @@ covers_one n m r b some start contacts first second end =
       end = end;
       start = subst (λ (l : ℤ). b.start ≤ℤ l) (sym late) start;
       contacts = subst (λ (cs : Contacts). (k : ℕ) → HasContact cs k → HasContact b.contacts k) (sym same) contacts;
+    }
+
+-- a bar that one query asks for is asked for by another that leaves out no more
+pub fits_more : (a b : Query) → a.above ≤ℤ b.above → a.from ≤ℤ b.from → a.key ≡ b.key → a.other ≡ b.other
+    → a.contacts ≡ b.contacts → (x : Bar) → Fits b x → Fits a x
+fits_more a b above from key other contacts x f =
+    let ends = f.ends in
+    let starts = f.starts in
+    record {
+      ends = omega (arith, ints, above, ends);
+      starts = omega (arith, ints, from, starts);
+      first = λ e. f.first (sym key ∙ e);
+      second = λ e. f.second (sym other ∙ e);
+      apart = subst (λ (cs : Contacts). ShareContact cs x.contacts → ⊥) (sym contacts) f.apart;
     }

@@ -1,5 +1,5 @@
 -- Trees over the places of a row of bars.
-use Rattle.std.specs.Prelude.{◌≡◌, ℕ, ◌<◌, ◌≤◌, ◌^◌, ◌/◌, pos, Bool, true, false, List, length, slice_index_or, All}
+use Rattle.std.specs.Prelude.{◌≡◌, ℕ, ◌<◌, ◌≤◌, ◌^◌, ◌/◌, pos, Bool, true, false, IsTrue, List, length, slice_index_or, All}
 use Rattle.bar_rows.specs.{declared.bars.Bar.Bar, Rows.bar_at}
 use Rattle.sym_items.specs.Standing.{nowhere}
 use Rattle.bar_tree.specs.declared.{node.{Node.Node, Query.Query}, tree.{Level.Level, Tree.Tree}}
@@ -48,6 +48,7 @@ pub record IsTreeOf (bars : List Bar) (tree : Tree) : Type 0 where
   pub places : length tree.started.items ≡ length bars
   pub few : length bars < 2 ^ 32
   pub levels : All (IsLevelOf bars tree.started.items) tree.levels.items
+  pub empty : IsTrue tree.is_empty → (p : ℕ) → IsStarted tree p → ⊥
 
 -- the bar at a place has started and is asked for
 abbrev pub IsAskedFor : List Bar → Tree → Query → ℕ → Type 0

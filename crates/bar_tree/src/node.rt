@@ -24,12 +24,13 @@ impl Query {
     pub fn asks_for_all_of(&self, other: &Query) -> bool
         ensures { IsTrue result → (b : Bar) → Fits other.now b → Fits self.now b }
     {
-        self.above <= other.above
-            && self.from <= other.from
-            && self.key == other.key
-            && self.other == other.other
-            && self.contacts.low == other.contacts.low
-            && self.contacts.high == other.contacts.high
+        if self.above > other.above || self.from > other.from {
+            return false;
+        }
+        if !is_same(self.key, other.key) || !is_same(self.other, other.other) {
+            return false;
+        }
+        are_same(self.contacts, other.contacts)
     }
 
     /// Whether a bar is asked for.
@@ -45,6 +46,26 @@ impl Query {
         }
         !self.contacts.share(bar.contacts)
     }
+}
+
+// Whether two keys that are left out are the same, or none is in either.
+#[inline(always)]
+fn is_same(a: Option<u32>, b: Option<u32>) -> bool
+    ensures { IsTrue result → a ≡ b }
+{
+    match (a, b) {
+        (Some(a), Some(b)) => a == b,
+        (None, None) => true,
+        _ => false,
+    }
+}
+
+// Whether contacts are the same.
+#[inline(always)]
+fn are_same(a: Contacts, b: Contacts) -> bool
+    ensures { IsTrue result → a ≡ b }
+{
+    a.low == b.low && a.high == b.high
 }
 
 // Whether a key is not the one that is left out.

@@ -129,8 +129,9 @@ impl Tree {
         ensures after { place ≤ result }
         ensures none { (p : ℕ) → place ≤ p → p < result → IsAskedFor bars.now self.now query.now p → ⊥ }
     {
+        let levels = self.levels.as_slice();
         let mut end = place;
-        for level in &self.levels {
+        for level in levels {
             if !begins && !level.begins_at(place) {
                 break;
             }

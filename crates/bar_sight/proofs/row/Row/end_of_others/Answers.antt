@@ -1,7 +1,8 @@
-use Rattle.std.proofs.Common.{◌≡◌, arith, true, get_or, w64}
+use Rattle.std.proofs.Common.{◌≡◌, ◌+◌, arith, true, false, get_or, w64, to_z, of_z}
 use Rattle.std.proofs.lemmas.{Int.to_z-of_z, List.get_or_read}
 use Rattle.bar_rows.specs.{Rows.{no_bar}}
 use Rattle.bar_sight.specs.{Sight.{last_at, no_last}}
+use Rattle.bar_sight.proofs.Behind.{sought_from}
 use Rattle.bar_sight.proofs.Ends.{IsWall, ends_at_last, ends_at_other, owned_next}
 use Rattle.bar_sight.proofs.row.Row.end_of_others.Goals.{then-index-via-then-index}
 use Rattle.bar_sight.proofs.row.Row.end_of_others.Goals.{then-index-via-else-index+then-is_other}
@@ -40,6 +41,20 @@ returns-then-index-clause-none c = λ q s.
           ends_at_other row place above from k known.0 q c.loop-k.owner wall
           (rw (to_z-of_z w64 above c.ranges.above) at c.loop-k.invariant.owned) known.1 known.2 s
     ]
+
+pub loop-k-preserved-then-not-is_free : goal.loop-k-preserved-then-not-is_free
+loop-k-preserved-then-not-is_free c =
+    let above = to_z w64 (of_z w64 c.args.above) in
+    let from = c.loop-k.from in
+    let k = c.in-Some.k in
+    let h = c.loop-k.invariant in
+    let after = h.after in
+    let behind = c.in-Some.ensures.after in
+    record {
+      after = omega (arith, after, behind);
+      owned = λ q o s e. h.owned q o
+          (sought_from c.args.self.now c.args.place above from (k + 1) false q (omega (arith, behind)) s) e;
+    }
 
 pub loop-k-preserved : goal.loop-k-preserved
 loop-k-preserved c =

@@ -41,6 +41,7 @@ loop-next-preserved-then-not-faces c =
           h.found;
       passed = passed_from row place above from (p + 1) c.loop-next.passed on h.passed;
       left = left_from row place above from (p + 1) c.loop-next.left on h.left;
+      clear = h.clear;
     }
 
 pub returns-in_err-screen-clause-adds : goal.returns-in_err-screen-clause-adds
@@ -76,6 +77,7 @@ loop-next-preserved c =
           (passed_from row place above from (p + 1) c.loop-next.passed on h.passed);
       left = c.in-Some-left_behind.ensures above low next.ends
           (left_from row place above from (p + 1) c.loop-next.left on h.left);
+      clear = c.look.ensures.clear;
     }
 
 pub returns-in-None-clause-adds : goal.returns-in-None-clause-adds
@@ -105,4 +107,13 @@ returns-in-None-clause-all c =
     h.found)
     (c.in-None.ensures above low next.ends
     (left_from row place above from (p + 1) c.loop-next.left on h.left))
+    q main sees varies (rw (to_z-of_z w64 c.args.above c.ranges.above) ends)
+
+pub returns-clause-all : goal.returns-clause-all
+returns-clause-all c = λ q main sees varies ends.
+    let row = c.args.self.now in
+    let above = to_z w64 (of_z w64 c.args.above) in
+    let h = c.loop-next.invariant in
+    all_found row c.args.place above c.loop-next.from true c.loop-next.found h.found
+    (λ k s. h.passed.hidden k s (c.in_default.ensures k s))
     q main sees varies (rw (to_z-of_z w64 c.args.above c.ranges.above) ends)

@@ -1,6 +1,6 @@
 use Rattle.std.proofs.Common.{◌<◌, ◌≤◌, ◌-◌, true, length}
 use Rattle.pair_set.specs.Sets.{pairs_of, limit_of}
-use Rattle.bar_sight.specs.{Sight.AddsFrom, Looks.{HasFound, IsPassed, AreLeft}}
+use Rattle.bar_sight.specs.{Sight.AddsFrom, Looks.{IsClear, HasFound, IsPassed, AreLeft}}
 use Rattle.bar_sight.proofs.row.Row.look_at_mains.Given as goal
 
 abbrev pub invariant-loop-next : goal.invariant-loop-next
@@ -12,6 +12,7 @@ invariant-loop-next l =
       found : HasFound l.self l.place l.above l.from true l.found;
       passed : IsPassed l.self l.place l.above l.from l.passed;
       left : AreLeft l.self l.place l.above l.from l.left;
+      clear : IsClear l.self l.place l.clear;
     }
 
 abbrev pub decreases-loop-next : goal.decreases-loop-next

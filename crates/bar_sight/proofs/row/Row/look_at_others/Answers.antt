@@ -34,6 +34,7 @@ loop-next-init c =
       adds = adds_none row place c.args.found.now;
       found = nearest_found row place above _ nearest _ c.args.found.now c.requires.row (omega (arith, ints)) next;
       late = late_low row place above nearest _ c.requires.row (omega (arith, ints));
+      clear = c.clear_from-clear.ensures row;
     }
 
 pub loop-next-preserved-then-not-faces : goal.loop-next-preserved-then-not-faces
@@ -61,6 +62,7 @@ loop-next-preserved-then-not-faces c =
           (rw c.as_slice-bars.ensures.value at c.faces.ensures) c.if-not-faces.true)
           h.found;
       late = late_from row place above from (p + 1) late on h.late;
+      clear = h.clear;
     }
 
 pub returns-in_err-screen-clause-adds : goal.returns-in_err-screen-clause-adds
@@ -95,6 +97,7 @@ loop-next-preserved c =
           h.found;
       late = rw (to_z-of_z w64 c.pass_other-late.result (record { sfits = c.pass_other-late.type_inv }))
           (c.pass_other-late.ensures above low (late_from row place above from (p + 1) late on h.late));
+      clear = c.look.ensures.clear;
     }
 
 pub end_of_others-end-requires-clause-above : goal.end_of_others-end-requires-clause-above

@@ -1,4 +1,4 @@
-use Rattle.std.proofs.Common.{◌≡◌, ◌<◌, ◌-◌, ℕ, length, List, sym, subst, ap, ◌∙◌, arith, get_or}
+use Rattle.std.proofs.Common.{◌≡◌, ◌<◌, ℕ, length, List, sym, subst, ap, ◌∙◌, get_or}
 use Rattle.bar_rows.specs.declared.bars.Bar.{Bar}
 use Rattle.bar_tree.specs.{declared.{tree.{Level.Level, Tree.Tree}}, Trees.{IsLevelOf, IsTreeOf}}
 use Rattle.bar_tree.proofs.Levels.{started_among}
@@ -12,16 +12,6 @@ a_level bars tree levels level k is same read lt =
     let P : Level → Type 0 = IsLevelOf bars tree.started.items in
     let read : level ≡ get_or tree.levels.items k level = read ∙ ap (λ (ls : List Level). get_or ls k level) same in
     subst P (sym read) (is.levels k level (subst (λ (ls : List Level). k < length ls) same lt))
-
-pub returns-then-end-place-clause-none : goal.returns-then-end-place-clause-none
-returns-then-end-place-clause-none c =
-    let tree = c.args.self.now in
-    let levels = c.as_slice-levels.result.now in
-    let some : 0 < length levels = c.if-levels-gt0.true in
-    let is = a_level c.args.bars.now tree levels c.index-levels-levels.result (length levels - 1) c.requires.tree
-    c.as_slice-levels.ensures.value c.index-levels-levels.is (omega (arith, some)) in
-    λ p le below asked. c.past-end.ensures.none tree.started.items is.covers p le below
-    (started_among tree.started.items (length c.args.bars.now) p c.requires.tree.places asked.0) asked.0 asked.1
 
 pub loop-level-preserved : goal.loop-level-preserved
 loop-level-preserved c =

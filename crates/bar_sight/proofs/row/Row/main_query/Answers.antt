@@ -1,9 +1,9 @@
 use Rattle.std.proofs.{Common.{◌∙◌, arith}, lemmas.Int.{ints}}
 use Rattle.bar_rows.specs.{Contacts.ShareContact, Rows.bar_at}
-use Rattle.bar_sight.proofs.Asked.{if_none, main_asked, apart_of_second, apart_of_first, start_fits}
+use Rattle.bar_sight.proofs.Asked.{main_asked, apart_of_second, apart_of_first, start_fits}
 use Rattle.bar_sight.proofs.Widths.{max_before}
-use Rattle.bar_sight.proofs.row.Row.main_screen.Goals.{then-first, else-first}
-use Rattle.bar_sight.proofs.row.Row.main_screen.Goals as goal
+use Rattle.bar_sight.proofs.row.Row.main_query.Goals.{then-first, else-first}
+use Rattle.bar_sight.proofs.row.Row.main_query.Goals as goal
 
 pub returns : goal.returns
 returns c =
@@ -18,7 +18,7 @@ returns c =
     let first_fits = start_fits row place c.requires.row (omega (arith, before, among)) in
     let second_fits = start_fits row far c.requires.row among in
     let max = rw same at c.max.ensures.value in
-    if_none c.screen_in.result _ _ _ (λ none k main screen.
+    λ k main screen.
     let behind_first = screen.screens.first.meet.0 in
     let behind_second = screen.screens.second.meet.1 in
     let k_bar = bar_at row.bars.items k in
@@ -28,9 +28,7 @@ returns c =
       | else-first w ↦ apart_of_first row.self_rule a b k_bar c.if-first.contacts (rw same at w.if-first.false) main
           screen.screens (let is = w.contacts-is in rw same at is)
     ] in
-    none k
-    (main_asked row place far k _ _ _ _ _ c.requires.row c.requires.begun c.requires.among screen main
+    main_asked row place far k _ _ _ _ _ c.requires.row c.requires.begun c.requires.among screen main
     (max_before c.max.result a.start b.start k_bar.end (record { sfits = c.max.type_inv }) first_fits second_fits max
     behind_first behind_second) (omega (arith, ints)) (rw same at c.key_of.ensures)
-    (rw same at c.key_of-2.ensures) apart) screen)
-    c.screen_in.ensures
+    (rw same at c.key_of-2.ensures) apart
