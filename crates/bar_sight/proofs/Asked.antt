@@ -1,6 +1,6 @@
 -- Which bars a search asks for.
 use Rattle.std.proofs.Common.{◌≡◌, ◌≢◌, ℕ, ◌<◌, ◌≤ℤ◌, ◌<ℤ◌, ℤ, pos, neg_ℤ, ◌^◌, Bool, true, false, IsTrue}
-use Rattle.std.proofs.Common.{arith, refl, sym, subst, ◌∙◌, Option, Some, None}
+use Rattle.std.proofs.Common.{arith, refl, sym, subst, ap, ◌∙◌, Option, Some, None}
 use Rattle.std.proofs.lemmas.{Int.{ints, clamps}, Option.{none-some, same_Some}}
 use Rattle.std.proofs.{Common.{MatchOption, length, w64, FitsSigned}, lemmas.List.Elements.{All-get_or}}
 use Rattle.std.specs.{Prelude.{if◌then◌else◌, is_some}, Bool.then_some, Int.int_max}
@@ -125,3 +125,7 @@ end_fits row p is here =
 pub sees_if_none : {X : Type 0} (o : Option X) (P : Type 0) (Q : X → Type 0) → is_some o ≡ false → MatchOption o P Q → P
 sees_if_none None P Q none h = h
 sees_if_none (Some x) P Q none h = absurd (cc)
+
+-- a main bar is not asked for by what leaves its key out
+pub not_its_key : (b : Bar) (key : Option ℕ) → IsTrue b.is_main → key ≡ key_of b → key ≢ Some b.key → ⊥
+not_its_key b key main is out = out (is ∙ ap (λ m. then_some m b.key) main)

@@ -1,9 +1,9 @@
 -- The next main bar that may be seen.
-use Rattle.std.proofs.Common.{◌≡◌, ◌≢◌, ℕ, ◌<◌, ◌≤◌, ◌≤ℤ◌, ◌<ℤ◌, ℤ, pos, neg_ℤ, ◌^◌, true, length, arith}
+use Rattle.std.proofs.Common.{◌≡◌, ◌≢◌, ℕ, ◌<◌, ◌≤◌, ◌≤ℤ◌, ◌<ℤ◌, ℤ, true, length, arith}
 use Rattle.std.proofs.{Common.{refl, ap, subst, Option, Some, None, MatchOption}, lemmas.Int.ints}
-use Rattle.std.proofs.lemmas.{Option.none-some, List.Elements.All-get_or}
+use Rattle.std.proofs.lemmas.{Option.none-some}
 use Rattle.std.specs.{Prelude.unwrap_or, Option.option_or}
-use Rattle.bar_rows.specs.{Rows.{bar_at, no_bar, IsPlacedBar}}
+use Rattle.bar_rows.specs.{Rows.{bar_at}}
 use Rattle.bar_tree.specs.{declared.node.Query.Query, Nodes.Fits, Trees.{IsAskedFor, IsFirstAsked}}
 use Rattle.bar_sight.specs.declared.{row.Row.Row, mains.Passed.Passed}
 use Rattle.bar_sight.specs.{Sight.{IsRow, AllBegun}, Looks.{IsSought, IsHidden, IsNext}}
@@ -64,14 +64,9 @@ hidden_by_both row place from all passed q a s late other =
     }
 
 -- all that are sought start at the least place or later
-none_low : (row : Row) (place from : ℕ) (all : Query) (passed : Passed) (q : ℕ) → AsksAll row place from all
-    → passed.late ≤ℤ neg_ℤ (pos (2 ^ 62)) → IsSought row place all.above from true q
-    → (IsAskedFor row.bars.items row.mains (late_of all passed.late) q → ⊥)
-    → IsHidden passed (bar_at row.bars.items q)
-none_low row place from all passed q a low s late =
-    let placed = All-get_or IsPlacedBar row.bars.items q no_bar s.sees.among a.is_row.placed in
-    let starts = placed.starts_after in
-    absurd (late (asked_late row place from all passed.late q a s (omega (arith, ints, low, starts))))
+asked_all : (row : Row) (place from : ℕ) (all : Query) (q : ℕ) → AsksAll row place from all
+    → IsSought row place all.above from true q → IsAskedFor row.bars.items row.mains all q
+asked_all row place from all q a s = ((a.begun q s.sees.among s.sees.faces.meet.1).main s.kind, a.fits q s)
 
 -- what the first place that was asked for gives
 next_of : (row : Row) (place from to p : ℕ) (all q : Query) (passed : Passed) → IsRow row → q.above ≡ all.above
@@ -88,20 +83,19 @@ next_of row place from to p all q passed is same among f first =
       first = first;
     }
 
-pub next_at_low : (row : Row) (place from : ℕ) (all : Query) (passed : Passed) (next : Option ℕ)
-    → AsksAll row place from all → passed.late ≤ℤ neg_ℤ (pos (2 ^ 62))
+pub next_of_all : (row : Row) (place from : ℕ) (all : Query) (passed : Passed) (next : Option ℕ)
+    → AsksAll row place from all
     → MatchOption next
-    ((p : ℕ) → from ≤ p → p < length row.bars.items
-    → IsAskedFor row.bars.items row.mains (late_of all passed.late) p → ⊥)
-    (IsFirstAsked row.bars.items row.mains (late_of all passed.late) from (length row.bars.items))
+    ((p : ℕ) → from ≤ p → p < length row.bars.items → IsAskedFor row.bars.items row.mains all p → ⊥)
+    (IsFirstAsked row.bars.items row.mains all from (length row.bars.items))
     → MatchOption next
     ((q : ℕ) → IsSought row place all.above from true q → IsHidden passed (bar_at row.bars.items q))
     (IsNext row place all.above from passed)
-next_at_low row place from all passed None a low none = λ q s.
-    none_low row place from all passed q a low s (none q s.after s.sees.among)
-next_at_low row place from all passed (Some p) a low f =
-    next_of row place from (length row.bars.items) p all (late_of all passed.late) passed a.is_row refl (omega arith) f
-    (λ k s before. none_low row place from all passed k a low s (f.first k s.after before))
+next_of_all row place from all passed None a none = λ q s.
+    absurd (none q s.after s.sees.among (asked_all row place from all q a s))
+next_of_all row place from all passed (Some p) a f =
+    next_of row place from (length row.bars.items) p all all passed a.is_row refl (omega arith) f
+    (λ k s before. absurd (f.first k s.after before (asked_all row place from all k a s)))
 
 none_before_end : (row : Row) (from : ℕ) (q : Query) (next : Option ℕ)
     → MatchOption next

@@ -115,8 +115,9 @@ impl Row {
         requires in_order { place < far }
         requires among { far < length self.now.bars.items }
         requires begun { AllBegun self.now (bar_at self.now.bars.items place).end }
-        ensures { (k : ℕ) → IsTrue (bar_at self.now.bars.items k).is_main → IsScreen self.now place far k
+        ensures asks { (k : ℕ) → IsTrue (bar_at self.now.bars.items k).is_main → IsScreen self.now place far k
             → IsAskedFor self.now.bars.items self.now.mains result k }
+        ensures not_far { IsAskedFor self.now.bars.items self.now.mains result far → ⊥ }
     {
         let bars = self.bars.as_slice();
         let (first, second) = (&bars[place], &bars[far]);
@@ -168,7 +169,8 @@ impl Row {
         let query = self.main_query(place, far);
         let from = self.first_to_ask(&query, place, clear);
         let Some(first) = self.mains.find(self.bars.as_slice(), &query, from, far) else {
-            *clear = Clear { query, to: far };
+            // The query does not ask for the bar farther along itself.
+            *clear = Clear { query, to: far + 1 };
             return None;
         };
         self.screen_in(&self.mains, &query, first, place, far)

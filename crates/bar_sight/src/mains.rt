@@ -91,14 +91,14 @@ impl Row {
             (IsNext self.now place all.now.above from passed) }
     {
         let bars = self.bars.as_slice();
+        if passed.late == LOW {
+            return self.mains.find(bars, all, from, bars.len());
+        }
         let started_late = Query {
             from: passed.late,
             ..*all
         };
         let next = self.mains.find(bars, &started_late, from, bars.len());
-        if passed.late == LOW {
-            return next;
-        }
         let of_another = Query {
             other: passed.first,
             ..*all

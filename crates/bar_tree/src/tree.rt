@@ -163,6 +163,7 @@ impl Tree {
     }
 
     /// The first place from one up to before another whose bar has started and is asked for, if there is one.
+    #[inline(always)]
     pub fn find(&self, bars: &[Bar], query: &Query, from: usize, to: usize) -> Option<usize>
         requires tree { IsTreeOf bars.now self.now }
         requires among { to ≤ length bars.now }
@@ -170,9 +171,20 @@ impl Tree {
             ((p : ℕ) → from ≤ p → p < to → IsAskedFor bars.now self.now query.now p → ⊥)
             (IsFirstAsked bars.now self.now query.now from to) }
     {
-        if self.is_empty {
+        if self.is_empty || to <= from {
             return None;
         }
+        self.first(bars, query, from, to)
+    }
+
+    // The same as `find`, which begins where there may be something to find.
+    fn first(&self, bars: &[Bar], query: &Query, from: usize, to: usize) -> Option<usize>
+        requires tree { IsTreeOf bars.now self.now }
+        requires among { to ≤ length bars.now }
+        ensures { MatchOption result
+            ((p : ℕ) → from ≤ p → p < to → IsAskedFor bars.now self.now query.now p → ⊥)
+            (IsFirstAsked bars.now self.now query.now from to) }
+    {
         let mut place = from;
         while place < to {
             if self.started[place] && query.fits(&bars[place]) {

@@ -1,12 +1,12 @@
 use Rattle.std.proofs.{Common.{◌∙◌, arith}, lemmas.Int.{ints}}
 use Rattle.bar_rows.specs.{Contacts.ShareContact, Rows.bar_at}
-use Rattle.bar_sight.proofs.Asked.{main_asked, apart_of_second, apart_of_first, start_fits}
+use Rattle.bar_sight.proofs.Asked.{main_asked, not_its_key, apart_of_second, apart_of_first, start_fits}
 use Rattle.bar_sight.proofs.Widths.{max_before}
 use Rattle.bar_sight.proofs.row.Row.main_query.Goals.{then-first, else-first}
 use Rattle.bar_sight.proofs.row.Row.main_query.Goals as goal
 
-pub returns : goal.returns
-returns c =
+pub returns-clause-asks : goal.returns-clause-asks
+returns-clause-asks c =
     let row = c.args.self.now in
     let place = c.args.place in
     let far = c.args.far in
@@ -32,3 +32,9 @@ returns c =
     (max_before c.max.result a.start b.start k_bar.end (record { sfits = c.max.type_inv }) first_fits second_fits max
     behind_first behind_second) (omega (arith, ints)) (rw same at c.key_of.ensures)
     (rw same at c.key_of-2.ensures) apart
+
+pub returns-clause-not_far : goal.returns-clause-not_far
+returns-clause-not_far c = λ asked.
+    let same = c.as_slice-bars.ensures.value in
+    not_its_key (bar_at c.args.self.now.bars.items c.args.far) _ (c.requires.row.only_mains c.args.far asked.0)
+    (rw same at c.key_of-2.ensures) asked.1.second

@@ -1,6 +1,6 @@
 use Rattle.std.proofs.Common.{◌-◌, ◌<◌, ◌≤◌, ℕ}
 use Rattle.bar_tree.specs.Trees.{IsAskedFor}
-use Rattle.bar_tree.proofs.tree.Tree.find.Given as goal
+use Rattle.bar_tree.proofs.tree.Tree.first.Given as goal
 
 abbrev pub invariant-loop-place : goal.invariant-loop-place
 invariant-loop-place l = record {
