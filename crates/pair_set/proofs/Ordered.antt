@@ -48,7 +48,7 @@ before_by a b Equal Equal h k e = absurd (cc)
 before_by a b Equal Greater h k e = absurd (cc)
 before_by a b Greater s h k e = absurd (cc)
 
-before : (a b : ℕ × ℕ) → pair_cmp a b ≡ Less → IsBefore a b
+pub before : (a b : ℕ × ℕ) → pair_cmp a b ≡ Less → IsBefore a b
 before a b e = before_by a b (nat_cmp a.0 b.0) (nat_cmp a.1 b.1) (ranks a.0 b.0) (ranks a.1 b.1) e
 
 pub in_order : (xs : List (ℕ × ℕ)) → IsSorted pair_cmp xs → AllPairs IsBefore (dedup pair_eq xs)
@@ -57,7 +57,8 @@ in_order xs up i j d lt hi =
     before (get_or once i d) (get_or once j d)
     (Less-from_sorted pair_cmp once i j d (IsStrictlySortedBy-dedup pairs_total ties xs up) lt hi)
 
-pub same_members : (xs ys : List (ℕ × ℕ)) → IsPermutation xs ys → (p : ℕ × ℕ) → Contains (dedup pair_eq ys) p ↔ Contains xs p
+pub same_members : (xs ys : List (ℕ × ℕ)) → IsPermutation xs ys → (p : ℕ × ℕ)
+    → Contains (dedup pair_eq ys) p ↔ Contains xs p
 same_members xs ys moved p = (
   λ h. Contains-permutation ys xs p (IsPermutation-sym xs ys moved) (Contains-from_dedup pair_eq ys p h),
   λ h. Contains-dedup equiv same_pair ys p (Contains-permutation xs ys p moved h),

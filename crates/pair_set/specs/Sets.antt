@@ -1,5 +1,5 @@
 -- Sets of pairs of numbers.
-use Rattle.std.specs.Prelude.{◌≡◌, ◌⊎◌, ℕ, ◌<◌, List, length, AllPairs}
+use Rattle.std.specs.Prelude.{◌≡◌, ◌⊎◌, ℕ, ◌+◌, ◌*◌, ◌^◌, ◌<◌, List, length, AllPairs}
 use Rattle.pair_set.specs.declared.set.{PairSet.PairSet, SetFault.{SetFault, TheVariants.{TooMany, OutOfMemory}}}
 
 -- the pairs of a set, as a list, and the most that it takes
@@ -12,6 +12,10 @@ limit_of set = set.limit
 -- one pair comes before another: by the first number, and then by the second
 abbrev pub IsBefore : ℕ × ℕ → ℕ × ℕ → Type 0
 IsBefore p q = (p.0 < q.0) ⊎ ((p.0 ≡ q.0) × (p.1 < q.1))
+
+-- a pair of numbers below 2 ^ 32 as one number, by which pairs stand in the same order
+abbrev pub key_of : ℕ × ℕ → ℕ
+key_of p = p.0 * 2 ^ 32 + p.1
 
 -- why a set did not take a pair, by what it holds then: more pairs than its limit, each once; that memory runs out may
 -- come whatever their number

@@ -1,7 +1,7 @@
 //! The set.
 
-ghost use Rattle.std.specs.Prelude.{◌≡◌, ◌≤◌, ◌⊎◌, ◌↔◌, ℕ, [], length, AllPairs, Contains, OnOk, IfErr};
-ghost use Rattle.pair_set.specs.Sets.{pairs_of, limit_of, IsBefore, RefusesPair};
+ghost use Rattle.std.specs.Prelude.{◌≡◌, ◌<◌, ◌^◌, ◌≤◌, ◌⊎◌, ◌↔◌, ℕ, [], length, AllPairs, Contains, OnOk, IfErr};
+ghost use Rattle.pair_set.specs.Sets.{pairs_of, limit_of, key_of, IsBefore, RefusesPair};
 ghost use Rattle.pair_set.specs.declared.set.SetFault.TheVariants.{OutOfMemory};
 
 use std::alloc::{AllocError, AllocFailed, Global};
@@ -40,9 +40,11 @@ pub struct PairSet {
     limit: u32,
 }
 
-// A pair as one number, by which pairs stand in order of their first numbers, and of their second ones.
+// A pair as one number, by which pairs stand in order of their first numbers, and of their second ones: the second
+// numbers are below 2 ^ 32.
 fn key_of(pair: (u32, u32)) -> u64
-    ensures { result ≡ key_of pair }
+    ensures value { result ≡ key_of pair }
+    ensures fits { pair.1 < 2 ^ 32 }
 {
     ((pair.0 as u64) << 32) | pair.1 as u64
 }
