@@ -178,6 +178,7 @@ impl Tree {
     }
 
     // The same as `find`, which begins where there may be something to find.
+    #[inline(never)]
     fn first(&self, bars: &[Bar], query: &Query, from: usize, to: usize) -> Option<usize>
         requires tree { IsTreeOf bars.now self.now }
         requires among { to ≤ length bars.now }
