@@ -64,6 +64,11 @@ module _ (axis : Axis) (t : Tech) (c : Coords) (items : List Item) where
   kept_among numbers sound =
       λ k d lt. let w = sound (get_or numbers k d) (Contains-get_or numbers k d lt) in (w.kept.j_among, w.kept.i_among)
 
+  -- and each one is that of a kept pair
+  pub each_kept : (numbers : List (ℕ × ℕ)) → ((n : ℕ × ℕ) → Contains numbers n → IsKeptNumbers axis t c items n)
+      → All (IsKeptNumbers axis t c items) numbers
+  each_kept numbers sound = λ k d lt. sound (get_or numbers k d) (Contains-get_or numbers k d lt)
+
   -- a set of kept pairs has too many only if there are too many kept pairs
   pub refuses_kept : (limit : ℕ) (found : PairSet) (fault : SetFault) → limit_of found ≡ limit → RefusesPair found fault
       → ((n : ℕ × ℕ) → Contains (pairs_of found) n → IsKeptNumbers axis t c items n)

@@ -7,7 +7,7 @@ use Rattle.lam_geom.specs.declared.boxes.Axis.{Axis}
 use Rattle.rule_table.specs.declared.technology.Tech.{Tech}
 use Rattle.sym_items.specs.declared.items.{Item.Item, Coords.Coords}
 use Rattle.pair_set.specs.Sets.{IsBefore}
-use Rattle.pair_rules.specs.{declared.pairs.Pair.Pair, Bound.item_at, Kept.{IsKept, kept_of}}
+use Rattle.pair_rules.specs.{declared.pairs.Pair.Pair, Bound.{item_at, bound_spacing}, Kept.{IsKept, kept_of}}
 use Rattle.pair_rules.specs.Candidates.{spacing_at, pair_with}
 use Rattle.pair_rules.proofs.{KeptPairs.are_kept, FacingItems.candidate_faces, Pieces.contains_pair}
 use Rattle.shadow_prune.specs.KeptNumbers.{IsKeptNumbers, PairBefore, pairs_of_numbers}
@@ -27,6 +27,13 @@ at_most (Some s) i j = omega arith
 
 at_least : (o : Option ℤ) (s : ℤ) (i j : ℕ) → o ≡ Some s → 1 ≤ length (pair_with o i j)
 at_least o s i j e = rw e (omega arith)
+
+-- the spacing of two items of a kept pair is that which they are bound with
+pub bound_where_kept : (axis : Axis) (t : Tech) (c : Coords) (items : List Item) (n : ℕ × ℕ)
+    → IsKeptNumbers axis t c items n
+    → spacing_at axis t c items n.1 n.0 ≡ bound_spacing t (item_at items n.1) (item_at items n.0)
+bound_where_kept axis t c items n w =
+    candidate_faces axis t c (item_at items n.1) (item_at items n.0) w.s w.kept.candidate ∙ sym w.kept.candidate.bound
 
 module _ (axis : Axis) (t : Tech) (c : Coords) (items : List Item) (numbers : List (ℕ × ℕ)) where
   -- there are no more pairs than numbers

@@ -1,6 +1,7 @@
 -- Lists of the pieces of some elements.
 use Rattle.std.proofs.Common.{ℕ, suc, ◌<◌, ◌≤◌, List, [], ◌∷◌, ◌++◌, length, get_or, sym, inl, inr, arith}
-use Rattle.std.proofs.Common.{length-append, subst}
+use Rattle.std.proofs.Common.{length-append, subst, ◌≡◌, ◌+◌, take, ap, ◌∙◌}
+use Rattle.std.proofs.lemmas.List.{append-nil, take_more, Concat.flat_map-append}
 use Rattle.std.proofs.lemmas.List.{Elements.{All-nil, All-head, All-tail, All-append}, Kept.AllPairs-cons}
 use Rattle.std.proofs.lemmas.List.Elements.{Contains-append_left, Contains-append_right}
 use Rattle.std.proofs.lemmas.List.FromFn.{length-range_with_len, get_or-range_with_len}
@@ -24,6 +25,13 @@ in_piece f (y ∷ ys) x v w h =
       | inl e ↦ Contains-append_left (f y) (flat_map f ys) v (subst (λ z. Contains (f z) v) (sym e) h)
       | inr later ↦ Contains-append_right (f y) (flat_map f ys) v (in_piece f ys x v later h)
     ]
+
+-- the pieces of one element more
+pub piece_more : {A B : Type 0} (f : A → List B) (xs : List A) (k : ℕ) (d : A) → k < length xs
+    → flat_map f (take (k + 1) xs) ≡ flat_map f (take k xs) ++ f (get_or xs k d)
+piece_more f xs k d lt =
+    ap (flat_map f) (take_more xs k d lt) ∙ flat_map-append f (take k xs) (get_or xs k d ∷ [])
+    ∙ ap (λ l. flat_map f (take k xs) ++ l) (append-nil (f (get_or xs k d)))
 
 -- how many there are
 pub at_least_one : {A B : Type 0} (f : A → List B) (xs : List A) → All (λ x. 1 ≤ length (f x)) xs

@@ -92,7 +92,7 @@ fn add_family(
     add_seen(alloc, bars, family.has_self_rule(tech), found)
 }
 
-// The pairs of these numbers, the later one first, with their spacings.
+// The pairs of these numbers of kept pairs, the later one first, with their spacings: what such items are bound with.
 fn with_spacings(
     alloc: Global,
     axis: Axis,
@@ -101,8 +101,8 @@ fn with_spacings(
     coords: &Coords,
     numbers: &[(u32, u32)],
 ) -> Result<Vec<Pair>, AllocError>
-    requires boxes { All (HasBox coords.now) items.now }
     requires among { All (λ n. (n.0 < length items.now) × (n.1 < length items.now)) numbers.now }
+    requires kept { All (IsKeptNumbers axis tech.now coords.now items.now) numbers.now }
     ensures { IfOk result (λ pairs. pairs.items ≡
         flat_map (pairs_of_numbers axis tech.now coords.now items.now) numbers.now) }
 {

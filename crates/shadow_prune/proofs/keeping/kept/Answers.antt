@@ -5,7 +5,7 @@ use Rattle.scan_line.specs.Begins.{IsOrderOf}
 use Rattle.shadow_prune.specs.declared.families.Family.TheVariants.{Metal}
 use Rattle.shadow_prune.specs.Families.{families}
 use Rattle.shadow_prune.specs.KeptNumbers.{pairs_of_numbers}
-use Rattle.shadow_prune.proofs.Found.{seen_in_order, has_all_kept, kept_among, refuses_kept}
+use Rattle.shadow_prune.proofs.Found.{seen_in_order, has_all_kept, kept_among, each_kept, refuses_kept}
 use Rattle.shadow_prune.proofs.KeptLists.{few_listed, is_kept_list}
 use Rattle.shadow_prune.proofs.keeping.kept.Goals as goal
 
@@ -36,6 +36,12 @@ returns-in-Err-clause-fault c =
 pub with_spacings-requires-clause-among : goal.with_spacings-requires-clause-among
 with_spacings-requires-clause-among c =
     rw c.deref-2.ensures.value (kept_among c.args.axis c.args.tech.now c.args.coords.now c.args.items.now
+    c.into_sorted-numbers.result.items
+    (λ n w. c.loop-family.invariant.sound n ((c.into_sorted-numbers.ensures.same n).0 w)))
+
+pub with_spacings-requires-clause-kept : goal.with_spacings-requires-clause-kept
+with_spacings-requires-clause-kept c =
+    rw c.deref-2.ensures.value (each_kept c.args.axis c.args.tech.now c.args.coords.now c.args.items.now
     c.into_sorted-numbers.result.items
     (λ n w. c.loop-family.invariant.sound n ((c.into_sorted-numbers.ensures.same n).0 w)))
 

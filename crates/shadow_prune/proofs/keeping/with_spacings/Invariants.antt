@@ -5,4 +5,4 @@ use Rattle.shadow_prune.proofs.keeping.with_spacings.Given as goal
 
 abbrev pub invariant-loop-j : goal.invariant-loop-j
 invariant-loop-j l =
-    l.pairs.items ≡ flat_map (pairs_of_numbers l.axis l.tech l.coords l.items) (take l.j-index l.numbers)
+    l.pairs.items ≡ flat_map (pairs_of_numbers l.fn.axis l.tech l.fn.coords l.items) (take l.j-index l.numbers)
