@@ -1,89 +1,119 @@
--- Lists of pairs in order, each once.
-use Rattle.std.proofs.Common.{◌≡◌, ◌↔◌, ◌<◌, ◌&&◌, ℕ, Bool, true, List, get_or, eqb, inl, inr, ap, ◌∙◌}
-use Rattle.std.proofs.Common.{arith}
-use Rattle.std.proofs.lemmas.{Cmp.{then_total, on_total, nat_cmp_total, and_equiv, on_equiv, nat_eq_equiv}}
-use Rattle.std.proofs.lemmas.{Bool.{and_parts, eqb-true}}
-use Rattle.std.proofs.lemmas.{Bool.Decides.nat_tests, Map.Keys.Less-from_sorted}
-use Rattle.std.proofs.lemmas.List.{Kept.{IsStrictlySortedBy-dedup, Contains-dedup, Contains-from_dedup}}
+-- Lists of pairs, kept as numbers, in order, each once.
+use Rattle.std.proofs.Common.{◌≡◌, ◌↔◌, ◌^◌, ◌/◌, ◌<◌, ◌≤◌, ℕ, suc, zero, List, [], ◌∷◌, ◌++◌}
+use Rattle.std.proofs.Common.{get_or, eqb, inl, inr, refl, sym, ap, subst, ◌∙◌, ◌⊎◌, map, length, arith}
+use Rattle.std.proofs.lemmas.{Cmp.{nat_cmp_total, nat_eq_equiv}, Bool.{eqb-true, Decides.nat_tests}}
+use Rattle.std.proofs.lemmas.{Map.Keys.Less-from_sorted, List.{length-map, get_or-map, map-append}}
+use Rattle.std.proofs.lemmas.List.Kept.{IsStrictlySortedBy-dedup, Contains-dedup, Contains-from_dedup}
 use Rattle.std.proofs.lemmas.List.Elements.{Contains-push, Contains-push_cases, Contains-append_left}
-use Rattle.std.proofs.Common.{◌⊎◌, ◌++◌, [], ◌∷◌, subst, sym}
 use Rattle.std.proofs.lemmas.List.Sorted.{Contains-permutation, IsPermutation-sym}
-use Rattle.std.specs.{Ordering.{nat_cmp, ordering_then, MatchOrdering, is_eq}, List.{AllPairs, Contains, dedup}}
-use Rattle.std.specs.{List.Sorted.{IsPermutation, IsSorted}, Cmp.{IsTotalOrder, IsEquivalence, ranks}}
+use Rattle.std.proofs.Math.Nat.{div-add-mod, mod-lt}
+use Rattle.std.specs.{Ordering.{nat_cmp, MatchOrdering, is_eq}, List.{AllPairs, Contains, dedup}}
+use Rattle.std.specs.{List.Sorted.{IsPermutation, IsSorted}, Cmp.{ranks}}
 use Rattle.std.specs.declared.cmp.Ordering.{Ordering, TheVariants.{Less, Equal, Greater}}
-use Rattle.pair_set.specs.Sets.{IsBefore}
+use Rattle.pair_set.specs.Sets.{IsBefore, pair_of}
 
--- how two pairs compare, and whether they are the same
-abbrev pub pair_cmp : (ℕ × ℕ) → (ℕ × ℕ) → Ordering
-pair_cmp a b = ordering_then (nat_cmp a.0 b.0) (nat_cmp a.1 b.1)
+-- ---- numbers and pairs
 
-abbrev pub pair_eq : (ℕ × ℕ) → (ℕ × ℕ) → Bool
-pair_eq a b = eqb a.0 b.0 && eqb a.1 b.1
+either : (a b : ℕ) → (a < b) ⊎ (b ≤ a)
+either a b = grind (arith, nat_tests)
 
-pairs_total : IsTotalOrder pair_cmp
-pairs_total = then_total (on_total (λ (t : ℕ × ℕ). t.0) nat_cmp_total) (on_total (λ (t : ℕ × ℕ). t.1) nat_cmp_total)
+-- pairs stand in order where their numbers do
+before : (a b : ℕ) → a < b → IsBefore (pair_of a) (pair_of b)
+before a b lt =
+    let first = div-add-mod a (2 ^ 32) in
+    let second = div-add-mod b (2 ^ 32) in
+    let some : 0 < 2 ^ 32 = omega arith in
+    let low = mod-lt a some in
+    let high = mod-lt b some in
+    elim (either (a / 2 ^ 32) (b / 2 ^ 32)) as (λ _. IsBefore (pair_of a) (pair_of b)) [
+      | inl less ↦ inl less
+      | inr most ↦ inr (
+        omega (arith, first, second, low, high, most, lt),
+        omega (arith, first, second, low, high, most, lt),
+      )
+    ]
 
-ties_nat : (a b c d : ℕ) → (eqb a b && eqb c d) ≡ is_eq (ordering_then (nat_cmp a b) (nat_cmp c d))
-ties_nat a b c d = grind (arith, nat_tests)
+-- ---- what is in a list of pairs
 
-ties : (x y : ℕ × ℕ) → pair_eq x y ≡ is_eq (pair_cmp x y)
-ties x y = ties_nat x.0 y.0 x.1 y.1
-
-same_pair : (x y : ℕ × ℕ) → pair_eq x y ≡ true → x ≡ y
-same_pair x y h =
-    let b = and_parts (eqb x.0 y.0) (eqb x.1 y.1) h in
-    let first : x.0 ≡ y.0 = eqb-true x.0 y.0 b.0 in
-    let second : x.1 ≡ y.1 = eqb-true x.1 y.1 b.1 in
-    let e : (x.0, x.1) ≡ (y.0, y.1) = ap (λ k. (k, x.1)) first ∙ ap (λ k. (y.0, k)) second in
-    e
-
-equiv : IsEquivalence pair_eq
-equiv = and_equiv (on_equiv (λ (t : ℕ × ℕ). t.0) nat_eq_equiv) (on_equiv (λ (t : ℕ × ℕ). t.1) nat_eq_equiv)
-
-before_by : (a b : ℕ × ℕ) → (r s : Ordering) → MatchOrdering r (a.0 < b.0) (a.0 ≡ b.0) (b.0 < a.0)
-    → MatchOrdering s (a.1 < b.1) (a.1 ≡ b.1) (b.1 < a.1) → ordering_then r s ≡ Less → IsBefore a b
-before_by a b Less s h k e = inl h
-before_by a b Equal Less h k e = inr (h, k)
-before_by a b Equal Equal h k e = absurd (cc)
-before_by a b Equal Greater h k e = absurd (cc)
-before_by a b Greater s h k e = absurd (cc)
-
-pub before : (a b : ℕ × ℕ) → pair_cmp a b ≡ Less → IsBefore a b
-before a b e = before_by a b (nat_cmp a.0 b.0) (nat_cmp a.1 b.1) (ranks a.0 b.0) (ranks a.1 b.1) e
-
-pub in_order : (xs : List (ℕ × ℕ)) → IsSorted pair_cmp xs → AllPairs IsBefore (dedup pair_eq xs)
-in_order xs up i j d lt hi =
-    let once = dedup pair_eq xs in
-    before (get_or once i d) (get_or once j d)
-    (Less-from_sorted pair_cmp once i j d (IsStrictlySortedBy-dedup pairs_total ties xs up) lt hi)
-
-pub same_members : (xs ys : List (ℕ × ℕ)) → IsPermutation xs ys → (p : ℕ × ℕ)
-    → Contains (dedup pair_eq ys) p ↔ Contains xs p
-same_members xs ys moved p = (
-  λ h. Contains-permutation ys xs p (IsPermutation-sym xs ys moved) (Contains-from_dedup pair_eq ys p h),
-  λ h. Contains-dedup equiv same_pair ys p (Contains-permutation xs ys p moved h),
+in_pairs : (keys : List ℕ) (k : ℕ) → Contains keys k → Contains (map pair_of keys) (pair_of k)
+in_pairs keys k h = (
+  h.0,
+  subst (λ n. h.0 < n) (sym (length-map keys pair_of)) h.1,
+  get_or-map pair_of keys h.0 k (pair_of k) h.1 ∙ ap pair_of h.2,
 )
 
--- a pair was added to a list, and the list put in order
-pub record IsPushed (old pushed sorted : List (ℕ × ℕ)) (pair : ℕ × ℕ) : Type 0 where
-  pub is : pushed ≡ old ++ pair ∷ []
-  pub same : (p : ℕ × ℕ) → Contains sorted p ↔ Contains pushed p
+out_of_pairs : (keys : List ℕ) (p : ℕ × ℕ) → Contains (map pair_of keys) p
+    → (k : ℕ) × Contains keys k × (pair_of k ≡ p)
+out_of_pairs [] p h = absurd (omega (arith, h.1))
+out_of_pairs (x ∷ keys) p (zero, lt, e) = (x, (zero, omega arith, refl), e)
+out_of_pairs (x ∷ keys) p (suc n, lt, e) =
+    let r = out_of_pairs keys p (n, omega (arith, lt), e) in
+    (r.0, (suc r.1.0, omega (arith, r.1.1), r.1.2), r.2)
 
-pub pushed_there : (old pushed sorted : List (ℕ × ℕ)) (pair : ℕ × ℕ) → IsPushed old pushed sorted pair
-    → Contains sorted pair
-pushed_there old pushed sorted pair h =
-    (h.same pair).1 (subst (λ l. Contains l pair) (sym h.is) (Contains-push old pair))
+-- ---- sorted numbers, each once
 
-pub pushed_kept : (old pushed sorted : List (ℕ × ℕ)) (pair : ℕ × ℕ) → IsPushed old pushed sorted pair
-    → (p : ℕ × ℕ) → Contains old p → Contains sorted p
-pushed_kept old pushed sorted pair h p there =
-    (h.same p).1 (subst (λ l. Contains l p) (sym h.is) (Contains-append_left old (pair ∷ []) p there))
+ties : (a b : ℕ) → eqb a b ≡ is_eq (nat_cmp a b)
+ties a b = grind (arith, nat_tests)
 
-pub pushed_others : (old pushed sorted : List (ℕ × ℕ)) (pair : ℕ × ℕ) → IsPushed old pushed sorted pair
-    → (p : ℕ × ℕ) → Contains sorted p → Contains old p ⊎ (p ≡ pair)
-pushed_others old pushed sorted pair h p there =
-    elim (Contains-push_cases old pair p (subst (λ l. Contains l p) h.is ((h.same p).0 there)))
-    as (λ _. Contains old p ⊎ (p ≡ pair)) [
+less_of : (a b : ℕ) (r : Ordering) → MatchOrdering r (a < b) (a ≡ b) (b < a) → r ≡ Less → a < b
+less_of a b Less h e = h
+less_of a b Equal h e = absurd (cc)
+less_of a b Greater h e = absurd (cc)
+
+pub in_order : (keys : List ℕ) → IsSorted nat_cmp keys → AllPairs IsBefore (map pair_of (dedup eqb keys))
+in_order keys up i j d lt there =
+    let once = dedup eqb keys in
+    let below : j < length once = subst (λ n. j < n) (length-map once pair_of) there in
+    let a = get_or once i 0 in
+    let b = get_or once j 0 in
+    let less = less_of a b (nat_cmp a b) (ranks a b)
+    (Less-from_sorted nat_cmp once i j 0 (IsStrictlySortedBy-dedup nat_cmp_total ties keys up) lt below) in
+    rw (get_or-map pair_of once i 0 d (omega (arith, lt, below)), get_or-map pair_of once j 0 d below)
+    (before a b less)
+
+pub same_members : (old keys : List ℕ) → IsPermutation old keys
+    → (p : ℕ × ℕ) → Contains (map pair_of (dedup eqb keys)) p ↔ Contains (map pair_of old) p
+same_members old keys moved p = (
+  λ h. let r = out_of_pairs (dedup eqb keys) p h in
+      subst (λ q. Contains (map pair_of old) q) r.2
+      (in_pairs old r.0
+      (Contains-permutation keys old r.0 (IsPermutation-sym old keys moved) (Contains-from_dedup eqb keys r.0 r.1))),
+  λ h. let r = out_of_pairs old p h in
+      subst (λ q. Contains (map pair_of (dedup eqb keys)) q) r.2
+      (in_pairs (dedup eqb keys) r.0
+      (Contains-dedup nat_eq_equiv (λ x y. eqb-true x y) keys r.0 (Contains-permutation old keys r.0 moved r.1))),
+)
+
+-- ---- a number was added to a list, and the list put in order
+
+pub record IsPushed (old pushed sorted : List ℕ) (key : ℕ) (pair : ℕ × ℕ) : Type 0 where
+  pub is : pushed ≡ old ++ key ∷ []
+  pub of : pair_of key ≡ pair
+  pub same : (p : ℕ × ℕ) → Contains (map pair_of sorted) p ↔ Contains (map pair_of pushed) p
+
+pairs_pushed : (old pushed sorted : List ℕ) (key : ℕ) (pair : ℕ × ℕ) → IsPushed old pushed sorted key pair
+    → map pair_of pushed ≡ map pair_of old ++ pair ∷ []
+pairs_pushed old pushed sorted key pair h =
+    ap (map pair_of) h.is ∙ (map-append pair_of old (key ∷ []) ∙ ap (λ q. map pair_of old ++ q ∷ []) h.of)
+
+pub pushed_there : (old pushed sorted : List ℕ) (key : ℕ) (pair : ℕ × ℕ) → IsPushed old pushed sorted key pair
+    → Contains (map pair_of sorted) pair
+pushed_there old pushed sorted key pair h =
+    (h.same pair).1 (subst (λ l. Contains l pair) (sym (pairs_pushed old pushed sorted key pair h))
+    (Contains-push (map pair_of old) pair))
+
+pub pushed_kept : (old pushed sorted : List ℕ) (key : ℕ) (pair : ℕ × ℕ) → IsPushed old pushed sorted key pair
+    → (p : ℕ × ℕ) → Contains (map pair_of old) p → Contains (map pair_of sorted) p
+pushed_kept old pushed sorted key pair h p there =
+    (h.same p).1 (subst (λ l. Contains l p) (sym (pairs_pushed old pushed sorted key pair h))
+    (Contains-append_left (map pair_of old) (pair ∷ []) p there))
+
+pub pushed_others : (old pushed sorted : List ℕ) (key : ℕ) (pair : ℕ × ℕ) → IsPushed old pushed sorted key pair
+    → (p : ℕ × ℕ) → Contains (map pair_of sorted) p → Contains (map pair_of old) p ⊎ (p ≡ pair)
+pushed_others old pushed sorted key pair h p there =
+    elim (Contains-push_cases (map pair_of old) pair p
+    (subst (λ l. Contains l p) (pairs_pushed old pushed sorted key pair h) ((h.same p).0 there)))
+    as (λ _. Contains (map pair_of old) p ⊎ (p ≡ pair)) [
       | inl k ↦ inl k
       | inr e ↦ inr (sym e)
     ]

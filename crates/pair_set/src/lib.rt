@@ -7,4 +7,4 @@
 
 mod set;
 
-pub use set::{PairSet, SetFault};
+pub use set::{PairSet, SetFault, pair_of};

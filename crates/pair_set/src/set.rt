@@ -1,7 +1,7 @@
 //! The set.
 
-ghost use Rattle.std.specs.Prelude.{◌≡◌, ◌<◌, ◌^◌, ◌≤◌, ◌⊎◌, ◌↔◌, ℕ, [], length, AllPairs, Contains, OnOk, IfErr};
-ghost use Rattle.pair_set.specs.Sets.{pairs_of, limit_of, key_of, IsBefore, RefusesPair};
+ghost use Rattle.std.specs.Prelude.{◌≡◌, ◌≤◌, ◌⊎◌, ◌↔◌, ℕ, [], length, map, AllPairs, Contains, OnOk, IfErr};
+ghost use Rattle.pair_set.specs.Sets.{pair_of, pairs_of, limit_of, IsBefore, RefusesPair};
 ghost use Rattle.pair_set.specs.declared.set.SetFault.TheVariants.{OutOfMemory};
 
 use std::alloc::{AllocError, AllocFailed, Global};
@@ -33,20 +33,25 @@ impl<T: Drop> From<AllocFailed<T>> for SetFault {
     }
 }
 
-/// A set of pairs of numbers.
+/// A set of pairs of numbers, each as one number: so they are sorted in less time.
 #[derive(Drop)]
 pub struct PairSet {
-    pairs: Vec<(u32, u32)>,
+    keys: Vec<u64>,
     limit: u32,
 }
 
-// A pair as one number, by which pairs stand in order of their first numbers, and of their second ones: the second
-// numbers are below 2 ^ 32.
+// A pair as one number: first numbers count before second ones.
 fn key_of(pair: (u32, u32)) -> u64
-    ensures value { result ≡ key_of pair }
-    ensures fits { pair.1 < 2 ^ 32 }
+    ensures { pair_of result ≡ pair }
 {
     ((pair.0 as u64) << 32) | pair.1 as u64
+}
+
+/// The pair that a number stands for.
+pub fn pair_of(key: u64) -> (u32, u32)
+    ensures { result ≡ pair_of key }
+{
+    ((key >> 32) as u32, (key & 0xffff_ffff) as u32)
 }
 
 impl PairSet {
@@ -56,7 +61,7 @@ impl PairSet {
         ensures limit { limit_of result ≡ limit }
     {
         PairSet {
-            pairs: Vec::new(alloc),
+            keys: Vec::new(alloc),
             limit,
         }
     }
@@ -71,10 +76,10 @@ impl PairSet {
         ensures others { (p : ℕ × ℕ) → Contains (pairs_of self.new) p → Contains (pairs_of self.old) p ⊎ (p ≡ pair) }
         ensures fault { IfErr result (RefusesPair self.new) }
     {
-        self.pairs.push(pair)?;
-        if self.pairs.len() > self.limit as usize {
+        self.keys.push(key_of(pair))?;
+        if self.keys.len() > self.limit as usize {
             self.sort();
-            if self.pairs.len() > self.limit as usize {
+            if self.keys.len() > self.limit as usize {
                 return Err(SetFault::TooMany);
             }
         }
@@ -88,17 +93,17 @@ impl PairSet {
         ensures few { length (pairs_of self.new) ≤ length (pairs_of self.old) }
         ensures limit { limit_of self.new ≡ limit_of self.old }
     {
-        self.pairs.sort_unstable_by_key(|pair| key_of(*pair));
-        self.pairs.dedup();
+        self.keys.sort_unstable();
+        self.keys.dedup();
     }
 
-    /// The pairs in order of their first numbers, and of their second ones, each once.
-    pub fn into_sorted(mut self) -> Vec<(u32, u32)>
-        ensures in_order { AllPairs IsBefore result.items }
-        ensures same { (p : ℕ × ℕ) → Contains result.items p ↔ Contains (pairs_of self) p }
+    /// The pairs as numbers (`pair_of`), in order of their first numbers, and of their second ones, each once.
+    pub fn into_sorted(mut self) -> Vec<u64>
+        ensures in_order { AllPairs IsBefore (map pair_of result.items) }
+        ensures same { (p : ℕ × ℕ) → Contains (map pair_of result.items) p ↔ Contains (pairs_of self) p }
         ensures few { length result.items ≤ length (pairs_of self) }
     {
         self.sort();
-        self.pairs
+        self.keys
     }
 }
