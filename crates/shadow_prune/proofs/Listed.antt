@@ -1,11 +1,12 @@
 -- Lists of the pieces of some elements.
 use Rattle.std.proofs.Common.{ℕ, suc, ◌<◌, ◌≤◌, List, [], ◌∷◌, ◌++◌, length, get_or, sym, inl, inr, arith}
-use Rattle.std.proofs.Common.{length-append, subst, ◌≡◌, ◌+◌, take, ap, ◌∙◌}
-use Rattle.std.proofs.lemmas.List.{append-nil, take_more, Concat.flat_map-append}
+use Rattle.std.proofs.Common.{length-append, subst, ◌≡◌, ◌+◌, take, map, ap, ◌∙◌}
+use Rattle.std.proofs.lemmas.List.{append-nil, take_more, length-map, get_or-map, Concat.flat_map-append}
 use Rattle.std.proofs.lemmas.List.{Elements.{All-nil, All-head, All-tail, All-append}, Kept.AllPairs-cons}
 use Rattle.std.proofs.lemmas.List.Elements.{Contains-append_left, Contains-append_right}
 use Rattle.std.proofs.lemmas.List.FromFn.{length-range_with_len, get_or-range_with_len}
 use Rattle.std.specs.List.{All, AllPairs, Contains, flat_map, range_with_len}
+use Rattle.pair_set.specs.Sets.{pair_of}
 use Rattle.shadow_prune.proofs.SameLists.{pairs_tail, one_or_later}
 
 -- what holds of the pieces, of the whole
@@ -83,3 +84,9 @@ numbers_in_order a n i j d lt le =
       get_or-range_with_len a n i d (omega (arith, lt, le, all)),
       get_or-range_with_len a n j d (omega (arith, le, all)),
     )
+
+-- what holds of each pair of some numbers, by number
+pub all_keys : (P : ℕ × ℕ → Type 0) (keys : List ℕ) → All P (map pair_of keys) → All (λ k. P (pair_of k)) keys
+all_keys P keys h = λ k d lt.
+    subst P (get_or-map pair_of keys k d (0, 0) lt)
+    (h k (0, 0) (subst (λ n. k < n) (sym (length-map keys pair_of)) lt))

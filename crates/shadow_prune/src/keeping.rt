@@ -5,7 +5,7 @@ ghost use Rattle.std.specs.{Prelude.{OnOk, IfOk, IfErr}, List.Contains};
 ghost use Rattle.sym_items.specs.{Boxes.HasBox, Values.value_of, Transposed.values_along};
 ghost use Rattle.pair_rules.specs.{declared.pairs.Pair.Pair, Candidates.Keeps, Clean.IsClean, Kept.{IsKept, kept_of}};
 ghost use Rattle.scan_line.specs.Begins.{begins_of, IsOrderOf};
-ghost use Rattle.pair_set.specs.Sets.{pairs_of, limit_of, RefusesPair};
+ghost use Rattle.pair_set.specs.Sets.{pair_of, pairs_of, limit_of, RefusesPair};
 ghost use Rattle.bar_rows.specs.Rows.{IsSeen};
 ghost use Rattle.shadow_prune.specs.declared.keeping.KeptFault.TheVariants as faults;
 ghost use Rattle.shadow_prune.specs.{KeptFaults.{RefusesKept, no_list_by}, Families.{has_self_rule, has_rule, bars_of}};
@@ -15,7 +15,7 @@ use crate::families::{FAMILIES, Family};
 use bar_sweep::add_seen;
 use lam_geom::Axis;
 use pair_rules::{Pair, is_bound};
-use pair_set::{PairSet, SetFault};
+use pair_set::{PairSet, SetFault, pair_of};
 use rule_table::Tech;
 use scan_line::{begins_of, sort_order};
 use std::alloc::{AllocError, AllocFailed, Global};
@@ -99,16 +99,16 @@ fn with_spacings(
     tech: &Tech,
     items: &[Item],
     coords: &Coords,
-    numbers: &[(u32, u32)],
+    keys: &[u64],
 ) -> Result<Vec<Pair>, AllocError>
-    requires among { All (λ n. (n.0 < length items.now) × (n.1 < length items.now)) numbers.now }
-    requires kept { All (IsKeptNumbers axis tech.now coords.now items.now) numbers.now }
+    requires among { All (λ k. ((pair_of k).0 < length items.now) × ((pair_of k).1 < length items.now)) keys.now }
+    requires kept { All (λ k. IsKeptNumbers axis tech.now coords.now items.now (pair_of k)) keys.now }
     ensures { IfOk result (λ pairs. pairs.items ≡
-        flat_map (pairs_of_numbers axis tech.now coords.now items.now) numbers.now) }
+        flat_map (λ k. pairs_of_numbers axis tech.now coords.now items.now (pair_of k)) keys.now) }
 {
-    let mut pairs = Vec::with_capacity(alloc, numbers.len())?;
-    for (j, i) in numbers {
-        let (i, j) = (*i, *j);
+    let mut pairs = Vec::with_capacity(alloc, keys.len())?;
+    for key in keys {
+        let (j, i) = pair_of(*key);
         if let Some(s) = is_bound(tech, &items[i as usize], &items[j as usize]) {
             pairs.push(Pair { i, j, s })?;
         }
@@ -147,6 +147,6 @@ pub fn kept(
             return Err(no_list(fault));
         }
     }
-    let numbers = found.into_sorted();
-    Ok(with_spacings(alloc, axis, tech, items, coords, &numbers)?)
+    let keys = found.into_sorted();
+    Ok(with_spacings(alloc, axis, tech, items, coords, &keys)?)
 }

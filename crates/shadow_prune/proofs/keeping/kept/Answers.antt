@@ -1,12 +1,15 @@
 -- The set holds the numbers of exactly the kept pairs in the end.
-use Rattle.std.proofs.Common.{◌≡◌, List, length, flat_map, get_or, ℤ, refl, subst, ap, ◌∙◌, inl, inr, arith, below_more}
+use Rattle.std.proofs.Common.{◌≡◌, ◌<◌, List, length, flat_map, get_or, ℤ, refl, sym, subst, ap, map, ◌∙◌, inl, inr, arith, below_more}
+use Rattle.std.proofs.lemmas.List.{length-map, Folds.flat_map-map}
+use Rattle.pair_set.specs.Sets.{pair_of}
 use Rattle.pair_rules.{proofs.KeptPairs.are_kept}
 use Rattle.scan_line.specs.Begins.{IsOrderOf}
 use Rattle.shadow_prune.specs.declared.families.Family.TheVariants.{Metal}
 use Rattle.shadow_prune.specs.Families.{families}
-use Rattle.shadow_prune.specs.KeptNumbers.{pairs_of_numbers}
+use Rattle.shadow_prune.specs.KeptNumbers.{IsKeptNumbers, pairs_of_numbers}
 use Rattle.shadow_prune.proofs.Found.{seen_in_order, has_all_kept, kept_among, each_kept, refuses_kept}
 use Rattle.shadow_prune.proofs.KeptLists.{few_listed, is_kept_list}
+use Rattle.shadow_prune.proofs.Listed.{all_keys}
 use Rattle.shadow_prune.proofs.keeping.kept.Goals as goal
 
 pub loop-family-preserved : goal.loop-family-preserved
@@ -35,15 +38,21 @@ returns-in-Err-clause-fault c =
 
 pub with_spacings-requires-clause-among : goal.with_spacings-requires-clause-among
 with_spacings-requires-clause-among c =
-    rw c.deref-2.ensures.value (kept_among c.args.axis c.args.tech.now c.args.coords.now c.args.items.now
-    c.into_sorted-numbers.result.items
-    (λ n w. c.loop-family.invariant.sound n ((c.into_sorted-numbers.ensures.same n).0 w)))
+    let items = c.args.items.now in
+    rw c.deref-2.ensures.value (all_keys (λ n. (n.0 < length items) × (n.1 < length items))
+    c.into_sorted-keys.result.items
+    (kept_among c.args.axis c.args.tech.now c.args.coords.now c.args.items.now
+    (map pair_of c.into_sorted-keys.result.items)
+    (λ n w. c.loop-family.invariant.sound n ((c.into_sorted-keys.ensures.same n).0 w))))
 
 pub with_spacings-requires-clause-kept : goal.with_spacings-requires-clause-kept
 with_spacings-requires-clause-kept c =
-    rw c.deref-2.ensures.value (each_kept c.args.axis c.args.tech.now c.args.coords.now c.args.items.now
-    c.into_sorted-numbers.result.items
-    (λ n w. c.loop-family.invariant.sound n ((c.into_sorted-numbers.ensures.same n).0 w)))
+    rw c.deref-2.ensures.value
+    (all_keys (IsKeptNumbers c.args.axis c.args.tech.now c.args.coords.now c.args.items.now)
+    c.into_sorted-keys.result.items
+    (each_kept c.args.axis c.args.tech.now c.args.coords.now c.args.items.now
+    (map pair_of c.into_sorted-keys.result.items)
+    (λ n w. c.loop-family.invariant.sound n ((c.into_sorted-keys.ensures.same n).0 w))))
 
 pub returns-clause-value : goal.returns-clause-value
 returns-clause-value c =
@@ -51,12 +60,13 @@ returns-clause-value c =
     let t = c.args.tech.now in
     let coords = c.args.coords.now in
     let items = c.args.items.now in
-    c.in_ok-with_spacings.ensures
-    ∙ (ap (flat_map (pairs_of_numbers axis t coords items)) c.deref-2.ensures.value
-    ∙ is_kept_list axis t coords items c.into_sorted-numbers.result.items
-    (λ n w. c.loop-family.invariant.sound n ((c.into_sorted-numbers.ensures.same n).0 w))
-    c.into_sorted-numbers.ensures.in_order
-    (λ p kept. (c.into_sorted-numbers.ensures.same (p.j, p.i)).1
+    let keys = c.into_sorted-keys.result.items in
+    rw c.deref-2.ensures.value at c.in_ok-with_spacings.ensures
+    ∙ (sym (flat_map-map (pairs_of_numbers axis t coords items) pair_of keys)
+    ∙ is_kept_list axis t coords items (map pair_of keys)
+    (λ n w. c.loop-family.invariant.sound n ((c.into_sorted-keys.ensures.same n).0 w))
+    c.into_sorted-keys.ensures.in_order
+    (λ p kept. (c.into_sorted-keys.ensures.same (p.j, p.i)).1
     (has_all_kept axis t coords items c.in_ok-order.order.items c.requires.boxes c.requires.clean
     (subst (λ (begins : List ℤ). IsOrderOf begins c.in_ok-order.order.items)
     (c.deref.ensures.value ∙ c.in_ok-begins.ensures) c.in_ok-order.ensures) c.loop-family.found
@@ -68,12 +78,14 @@ returns-clause-few c =
     let t = c.args.tech.now in
     let coords = c.args.coords.now in
     let items = c.args.items.now in
-    let numbers = c.into_sorted-numbers.result.items in
-    let listed = few_listed axis t coords items numbers in
+    let keys = c.into_sorted-keys.result.items in
+    let listed = few_listed axis t coords items (map pair_of keys) in
+    let as_many = length-map keys pair_of in
     let is : length c.in_ok-with_spacings.field-0.items
-    ≡ length (flat_map (pairs_of_numbers axis t coords items) numbers) = ap length (c.in_ok-with_spacings.ensures
-    ∙ ap (flat_map (pairs_of_numbers axis t coords items)) c.deref-2.ensures.value) in
-    omega (arith, is, listed, c.into_sorted-numbers.ensures.few, c.loop-family.invariant.room)
+    ≡ length (flat_map (pairs_of_numbers axis t coords items) (map pair_of keys)) =
+    ap length (rw c.deref-2.ensures.value at c.in_ok-with_spacings.ensures
+    ∙ sym (flat_map-map (pairs_of_numbers axis t coords items) pair_of keys)) in
+    omega (arith, is, listed, as_many, c.into_sorted-keys.ensures.few, c.loop-family.invariant.room)
 
 pub returns-clause-each : goal.returns-clause-each
 returns-clause-each c = (are_kept c.args.axis c.args.tech.now c.args.coords.now c.args.items.now

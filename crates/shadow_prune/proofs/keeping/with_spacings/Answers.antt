@@ -1,9 +1,11 @@
 -- The spacing of a kept pair is that which its items are bound with.
 use mir.Val.{SFits}
-use Rattle.std.proofs.Common.{◌≡◌, ℕ, ℤ, ◌∙◌, ◌++◌, [], ◌∷◌, get_or, refl, ap, sym, to_z, of_z, w64, Option, Some, None}
+use Rattle.std.proofs.Common.{◌≡◌, ℕ, ℤ, ◌∙◌, ◌++◌, [], ◌∷◌, get_or, take, flat_map, refl, ap, sym, subst}
+use Rattle.std.proofs.Common.{List, to_z, of_z, w64, Option, Some, None}
 use Rattle.std.proofs.{Common.rules, lemmas.{Int.to_z-of_z, List.append-nil}}
 use Rattle.pair_rules.specs.{declared.pairs.Pair.Pair, Candidates.pair_with}
-use Rattle.shadow_prune.specs.KeptNumbers.{pairs_of_numbers}
+use Rattle.pair_set.specs.Sets.{pair_of}
+use Rattle.shadow_prune.specs.KeptNumbers.{IsKeptNumbers, pairs_of_numbers}
 use Rattle.shadow_prune.proofs.{Listed.piece_more, KeptLists.bound_where_kept}
 use Rattle.shadow_prune.proofs.keeping.with_spacings.Goals.{in-Some+in_ok-push, in_default}
 use Rattle.shadow_prune.proofs.keeping.with_spacings.Goals as goal
@@ -15,18 +17,23 @@ one_pair o s z i j e f = rw (e, f) refl
 no_pair : (o : Option ℤ) (i j : ℕ) → o ≡ None → pair_with o i j ≡ []
 no_pair o i j e = rw e refl
 
-pub loop-j-preserved : goal.loop-j-preserved
-loop-j-preserved c =
+pub loop-key-preserved : goal.loop-key-preserved
+loop-key-preserved c =
     let axis = c.args.axis in
     let t = c.args.tech.now in
     let k = c.args.coords.now in
     let items = c.args.items.now in
-    let numbers = c.args.numbers.now in
-    let pairs = c.loop-j.pairs.items in
-    let n = get_or numbers c.loop-j.j-index (0, 0) in
-    let next = piece_more (pairs_of_numbers axis t k items) numbers c.loop-j.j-index (0, 0) c.loop-j-test.true in
-    let before = ap (λ l. l ++ pairs_of_numbers axis t k items n) c.loop-j.invariant in
-    let bound = bound_where_kept axis t k items n (c.requires.kept c.loop-j.j-index (0, 0) c.loop-j-test.true)
+    let keys = c.args.keys.now in
+    let pairs = c.loop-key.pairs.items in
+    let i = c.loop-key.key-index in
+    let f : ℕ → List Pair = λ key. pairs_of_numbers axis t k items (pair_of key) in
+    let n = c.pair_of-j.result in
+    let same : n ≡ pair_of (get_or keys i 0) = c.pair_of-j.ensures in
+    let next = piece_more f keys i 0 c.loop-key-test.true
+    ∙ ap (λ m. flat_map f (take i keys) ++ pairs_of_numbers axis t k items m) (sym same) in
+    let before = ap (λ l. l ++ pairs_of_numbers axis t k items n) c.loop-key.invariant in
+    let bound = bound_where_kept axis t k items n (subst (IsKeptNumbers axis t k items) (sym same)
+    (c.requires.kept i 0 c.loop-key-test.true))
     ∙ sym c.is_bound.ensures.value in
     elim c.match-is_bound.branch [
       | in-Some+in_ok-push w ↦
