@@ -1,9 +1,9 @@
 -- Which bars a search asks for.
 use Rattle.std.proofs.Common.{◌≡◌, ◌≢◌, ℕ, ◌<◌, ◌≤ℤ◌, ◌<ℤ◌, ℤ, pos, neg_ℤ, ◌^◌, Bool, true, false, IsTrue}
 use Rattle.std.proofs.Common.{arith, refl, sym, subst, ap, ◌∙◌, Option, Some, None}
-use Rattle.std.proofs.lemmas.{Int.{ints, clamps}, Option.{none-some, same_Some}}
+use Rattle.std.proofs.lemmas.{Int.{ints}, Option.{none-some, same_Some}}
 use Rattle.std.proofs.{Common.{MatchOption, length, w64, FitsSigned}, lemmas.List.Elements.{All-get_or}}
-use Rattle.std.specs.{Prelude.{if◌then◌else◌, is_some}, Bool.then_some, Int.int_max}
+use Rattle.std.specs.{Prelude.{if◌then◌else◌, is_some}, Bool.then_some}
 use Rattle.bar_rows.specs.{declared.bars.{Bar.Bar, Contacts.Contacts}, Contacts.ShareContact}
 use Rattle.bar_rows.specs.{Facing.{KindsBind, Screens}, Rows.{IsPlacedBar, bar_at, no_bar}}
 use Rattle.bar_tree.specs.{Trees.IsAskedFor}
@@ -32,13 +32,6 @@ pub second_apart : (r m n : Bool) (k b : Bar) → IsTrue m → KindsBind r m n k
     → ShareContact (if n then free else b.contacts) k.contacts → ⊥
 second_apart r m true k b main h = free_apart free k.contacts refl refl
 second_apart r m false k b main h = apart_turned k.contacts b.contacts (main_bound r m false k b main refl h)
-
--- what screens two bars ends behind the starts of both
-pub ends_behind : (r : Bool) (a b k : Bar) → Screens r a b k → int_max a.start b.start <ℤ k.end
-ends_behind r a b k h =
-    let first = h.first.meet.0 in
-    let second = h.second.meet.1 in
-    omega (arith, ints, clamps, first, second)
 
 pub above_low : (low : ℤ) (b : Bar) → low ≤ℤ neg_ℤ (pos (2 ^ 62)) → IsPlacedBar b → low ≤ℤ b.start
 above_low low b under placed =

@@ -89,16 +89,6 @@ hidden_key row place above from passed None key q is h s early same = h.low is q
 hidden_key row place above from passed (Some first) key q is h s early same =
     h.hidden q s (record { early = early; key = subst (λ k. passed.first ≡ Some k) same is })
 
-pub passed_kept : (row : Row) (place : ℕ) (above : ℤ) (from : ℕ) (passed : Passed) (key : ℕ)
-    → IsPassed row place above from passed
-    → IsPassed row place above from (record { first = Some (unwrap_or passed.first key); late = passed.late })
-passed_kept row place above from passed key h =
-    record {
-      low = λ e q s early. none-some (unwrap_or passed.first key) (sym e);
-      hidden = λ q s hidden. hidden_key row place above from passed passed.first key q refl h s hidden.early
-          (same_Some (unwrap_or passed.first key) (bar_at row.bars.items q).key hidden.key);
-    }
-
 below_max : (a b c : ℤ) → a <ℤ int_max b c → (a <ℤ b) ⊎ (a <ℤ c)
 below_max a b c h = grind (arith, ints)
 

@@ -6,7 +6,7 @@ use Rattle.std.proofs.lemmas.{Bool.{cases_Bool, eqb-true, eqb-false}, List.{leng
 use Rattle.std.proofs.lemmas.{Grind.get_or-set_at}
 use Rattle.std.specs.List.{All}
 use Rattle.bar_rows.specs.{declared.bars.Bar.Bar, Rows.{bar_at, no_bar}}
-use Rattle.bar_sight.specs.{declared.row.Last.Last, Sight.{last_at, no_last, IsLast, AreLasts}}
+use Rattle.bar_sight.specs.{declared.row.Last.Last, Sight.{last_at, no_last, IsLast}}
 use Rattle.bar_sweep.specs.Sweeps.{with_met}
 
 -- a bar is met of its owner
@@ -117,18 +117,3 @@ met_more bars met lasts place next e in' h last met' lasts' is now_lasts now_met
           lt) (met_each bars met lasts place next e h in' q after lt);
       each = last_each bars met lasts place next e h in';
     })
-
-pub none_met : (bars : List Bar) (met lasts : List Last) → All (λ b. b.owner < length met) bars
-    → length lasts ≡ length bars → MetFrom bars met lasts (length bars)
-none_met bars met lasts owners long =
-    record {
-      owners = owners;
-      one_each = long;
-      are_met = λ q after lt. absurd (omega (arith, after, lt));
-      each = λ p after lt. absurd (omega (arith, after, lt));
-    }
-
-pub all_met : (bars : List Bar) (met lasts : List Last) (place : ℕ) → place ≡ 0 → MetFrom bars met lasts place
-    → AreLasts bars lasts
-all_met bars met lasts place zero h =
-    record { one_each = h.one_each; each = λ p lt. h.each p (omega (arith, zero)) lt }

@@ -177,7 +177,7 @@ impl Tree {
         self.first(bars, query, from, to)
     }
 
-    // The same as `find`, which begins where there may be something to find.
+    // What `find` does where some bar has started.
     #[inline(never)]
     fn first(&self, bars: &[Bar], query: &Query, from: usize, to: usize) -> Option<usize>
         requires tree { IsTreeOf bars.now self.now }

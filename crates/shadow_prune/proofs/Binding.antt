@@ -1,13 +1,13 @@
 -- Items of a family are bound where their bars are.
 use Rattle.std.proofs.Common.{◌≡◌, ◌≢◌, ◌⊎◌, inl, inr, ℕ, ℤ, pos, ◌+ℤ◌, ◌-ℤ◌, ◌*ℤ◌, Bool, true, false, ◌&&◌, cond}
-use Rattle.std.proofs.{Common.{Option, Some, None, List, refl, sym, ap, ◌∙◌, subst}, lemmas.Bool.true≢false}
+use Rattle.std.proofs.{Common.{Option, Some, None, refl, sym, ap, ◌∙◌, subst}, lemmas.Bool.true≢false}
 use Rattle.std.specs.Prelude.{IsTrue, is_some, int_le}
 use Rattle.lam_geom.specs.declared.boxes.Axis.{Axis}
 use Rattle.rule_table.specs.{Spacing.{spacing_in, gap_of}, declared.technology.Tech.Tech}
 use Rattle.rule_table.specs.declared.classes.{Rule.Rule, Class.{Class, TheVariants.{M, P, Dm}}}
 use Rattle.sym_items.specs.{declared.items.{Item.Item, Coords.Coords}, Standing.{nowhere, StandTogether}}
 use Rattle.sym_items.specs.Transposed.{item_along}
-use Rattle.pair_rules.specs.{Bound.{item_at, is_poly_on_diffusion, bound_spacing, IsBound}, Candidates.sides_at}
+use Rattle.pair_rules.specs.{Bound.{is_poly_on_diffusion, bound_spacing, IsBound}, Candidates.sides_at}
 use Rattle.pair_rules.proofs.BoundItems.{bound_exactly, out_of_bound}
 use Rattle.bar_rows.specs.{declared.bars.{Bar.Bar, Contacts.Contacts}, Contacts.ShareContact}
 use Rattle.bar_rows.specs.Facing.{KindsBind, Binds}
@@ -15,7 +15,7 @@ use Rattle.shadow_prune.specs.declared.families.Family.{Family}
 use Rattle.shadow_prune.specs.declared.families.Family.TheVariants.{Metal, Diffusion, Poly, Cuts, Implants, Windows}
 use Rattle.shadow_prune.specs.Families.{main_of, role_of, self_rule_of, other_rule_of, has_rule, has_self_rule}
 use Rattle.shadow_prune.specs.Families.{self_spacing, other_spacing, spacing_or, exempts, is_exempt, is_main_role}
-use Rattle.shadow_prune.specs.Families.{is_main, contacts_of, reach_of, least_needed, bar_of}
+use Rattle.shadow_prune.specs.Families.{is_main, contacts_of, reach_of, least_needed}
 use Rattle.shadow_prune.proofs.Classes.{the_main, rule_for, ruled_by_roles, not_exempt}
 
 -- the spacing of two items of a family by their roles
@@ -104,10 +104,6 @@ item_bar axis t c f a k =
       is_main = is_main f a;
       is_solid = int_le (least_needed t f (is_main f a)) (item_along axis a).least_x;
     }
-
-pub is_its_bar : (axis : Axis) (t : Tech) (c : Coords) (items : List Item) (f : Family) (k : ℕ)
-    → bar_of axis t c items f k ≡ item_bar axis t c f (item_at items k) k
-is_its_bar axis t c items f k = refl
 
 pub main_by_role : (f : Family) (a : Item) (m : Bool) → role_of f a.class ≡ Some m → is_main f a ≡ m
 main_by_role f a m e = ap is_main_role e
